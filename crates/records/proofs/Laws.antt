@@ -1,0 +1,60 @@
+-- Laws that several proofs use: what a run of stores leaves, how many bytes a record takes, and what a body holds by its
+-- numbers and their ranges.
+use Prim.Native.Nat.{ℕ, zero, suc, _+_}
+use mathlib.Core.Bool.{Bool, true, false, cond, _&&_}
+use mathlib.Core.List.{List, [], _∷_, _++_}
+use mathlib.Core.Option.{Option, none, some}
+use mathlib.Core.Path.{_≡_, refl, _∙_, ap}
+use native.Mathlib.Nat.{add-zero}
+use native.Mathlib.Omega.{arith}
+use lib.ListN.{length, getD, set, length-append}
+use lib.Seq.{sets}
+use Rattle.records.specs.Bytes.{number, bytes}
+use Rattle.records.specs.Letters.{Letter, width, fits}
+use Rattle.records.specs.Bodies.{Values, Flat, Stored, size, andThen, valueAt, valuesAt, numbersAt, allFit, bodyBytes, flatBytes, flatSize}
+
+pub number-one : (s : List ℕ) (at : ℕ) → number 1 s at ≡ getD s at 0
+unfolding number
+number-one s at = omega arith
+
+pub sets-append : (xs : List ℕ) (l ys : List ℕ) (i : ℕ) → sets l i (xs ++ ys) ≡ sets (sets l i xs) (i + length xs) ys
+sets-append [] l ys i = rw add-zero
+sets-append (x ∷ xs) l ys i =
+    let e : suc i + length xs ≡ i + suc (length xs) = omega arith in sets-append xs (set l i x) ys (suc i) ∙ rw e
+
+pub length-bytes : (n v : ℕ) → length (bytes n v) ≡ n
+unfolding bytes
+length-bytes zero v = refl
+length-bytes (suc n) v = ap suc (length-bytes n _)
+
+pub length-bodyBytes : (ls : List Letter) (vs : Values ls) → length (bodyBytes ls vs) ≡ size ls
+unfolding bodyBytes
+length-bodyBytes [] vs = refl
+length-bodyBytes (l ∷ ls) vs = rw (length-append, length-bytes, length-bodyBytes ls (vs .1))
+
+pub length-flatBytes : (f : Flat) → length (flatBytes f) ≡ flatSize f
+unfolding flatBytes flatSize
+length-flatBytes f = simp (length-append, length-bytes, length-bodyBytes) (omega arith)
+
+pub stored-none : {l : List ℕ} {at : ℕ} → Stored l at [] at l
+stored-none = record { end = omega arith; now = refl }
+
+pub stored-then : {old mid new xs ys : List ℕ} {at mid-at next : ℕ}
+    → Stored old at xs mid-at mid → Stored mid mid-at ys next new → Stored old at (xs ++ ys) next new
+stored-then {old} {mid} {new} {xs} {ys} {at} p q =
+    record { end = rw length-append (omega arith); now = rw (sets-append xs old ys at, ← p .now, ← p .end) (q .now) }
+
+both : {A B : Type 0} (a b : Bool) (x : A) (y : B)
+    → andThen (cond a (some x) none) (λ v. andThen {B = A × B} (cond b (some y) none) (λ vs. some (v, vs))) ≡ cond (a && b) (some (x, y)) none
+both true true x y = refl
+both true false x y = refl
+both false b x y = refl
+
+-- the values are the numbers, where each is in its letter's range
+pub values-numbers : (ls : List Letter) (s : List ℕ) (at : ℕ)
+    → valuesAt ls s at ≡ cond (allFit ls (numbersAt ls s at)) (some (numbersAt ls s at)) none
+unfolding valuesAt valueAt numbersAt allFit
+values-numbers [] s at = refl
+values-numbers (l ∷ ls) s at =
+    simp (values-numbers ls s (at + width l))
+    (both (fits l (number (width l) s at)) (allFit ls (numbersAt ls s (at + width l))) _ _)

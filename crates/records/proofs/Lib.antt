@@ -1,0 +1,5 @@
+pub mod Determined
+pub mod Laws
+pub mod RoundTrip
+pub mod Rows
+pub mod Tables

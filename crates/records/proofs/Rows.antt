@@ -1,0 +1,66 @@
+-- What a reader by a table answers, by the way on which the code came to its answer.
+use mathlib.Core.Path.{_≡_, refl, sym, _∙_}
+use mathlib.Core.Bool.{Bool, true, false, not}
+use mathlib.Core.List.{List, [], _∷_}
+use mathlib.Core.Option.{none, some}
+use Prim.Native.Nat.{ℕ}
+use borrow.Author.Tests.{ne-eqb, not-true, not-false}
+use Rattle.records.specs.Bodies.{Values, Flat, Wrote, notWritten, bodyOf, kindIn, flatFits, flatBytes, written}
+use Rattle.records.specs.Tables.{Table, Read, taken, refused, find, readBody, readAs, read, flat, fine, write}
+
+module _ (t : Table) (found : (k : t .Kind) → find t (t .rowOf k .number) (t .kinds) ≡ some k) where
+  -- a kind whose body is wrong
+  pub bad : (k : t .Kind) {n : ℕ} (s : List ℕ) → n ≡ t .rowOf k .number → none ≡ bodyOf (t .rowOf k .letters) s → refused 4 ≡ readAs t n s
+  unfolding readAs readBody
+  bad k s key body = rw (key, found k, ← body)
+
+  -- a kind whose body holds values that agree
+  pub good : (k : t .Kind) {n : ℕ} (s : List ℕ) {vs : Values (t .rowOf k .letters)} → t .agrees (t .valueOf k vs) ≡ true → n ≡ t .rowOf k .number → some vs ≡ bodyOf (t .rowOf k .letters) s → taken (t .valueOf k vs) ≡ readAs t n s
+  unfolding readAs readBody
+  good k s agrees key body = rw (key, found k, ← body, agrees)
+
+  -- a kind whose body holds values that do not agree
+  pub apart : (k : t .Kind) {n : ℕ} (s : List ℕ) {vs : Values (t .rowOf k .letters)} → t .agrees (t .valueOf k vs) ≡ false → n ≡ t .rowOf k .number → some vs ≡ bodyOf (t .rowOf k .letters) s → refused 4 ≡ readAs t n s
+  unfolding readAs readBody
+  apart k s agrees key body = rw (key, found k, ← body, agrees)
+
+module _ (t : Table) (n : ℕ) where
+  -- a number that is no kind's, as the last arm of a match knows it
+  abbrev pub Others : Type 0 → List (t .Kind) → Type 0
+  Others T [] = T
+  Others T (k ∷ ks) = Others (T × (n ≡ t .rowOf k .number → ⊥)) ks
+
+  absent : {T : Type 0} (ks : List (t .Kind)) → Others T ks → (find t n ks ≡ none) × T
+  absent [] rest = (refl, rest)
+  absent (k ∷ ks) rest = (rw (ne-eqb _ _ (absent ks rest .1 .1)) (absent ks rest .0), absent ks rest .1 .0)
+
+  pub unknown : (s : List ℕ) → Others (Unit {0}) (t .kinds) → refused 3 ≡ readAs t n s
+  unfolding readAs
+  unknown s rest = rw (absent (t .kinds) rest .0)
+
+module _ (t : Table) where
+  -- a record whose length is wrong
+  pub headless : (s : List ℕ) → none ≡ kindIn s → refused 2 ≡ read t s
+  unfolding read
+  headless s e = rw (← e)
+
+  -- a record whose length is right
+  pub headed : (s : List ℕ) {n : ℕ} {r : Read (t .Value)} → some n ≡ kindIn s → r ≡ readAs t n s → r ≡ read t s
+  unfolding read
+  headed s e h = rw (← e) h
+
+  module _ {f : Flat} {v : t .Value} {fit : Bool} (buffer : List ℕ) (parts : f ≡ flat t v) (fits : fit ≡ flatFits f) where
+    -- values out of their letters' ranges
+    pub misfit : not fit ≡ true → (notWritten 4, buffer) ≡ write t v buffer
+    unfolding write fine written
+    misfit h = let e : flatFits (flat t v) ≡ false = cc (not-true fit h) in rw e
+
+    -- values in range that do not agree
+    pub disagree : not fit ≡ false → t .agrees v ≡ false → (notWritten 4, buffer) ≡ write t v buffer
+    unfolding write fine written
+    disagree h a = let e : flatFits (flat t v) ≡ true = cc (not-false fit h) in rw (e, a)
+
+    -- values that are right
+    pub written-as : not fit ≡ false → t .agrees v ≡ true → {w : Wrote × List ℕ} → w ≡ written true (flatBytes f) buffer → w ≡ write t v buffer
+    unfolding write fine
+    written-as h a e = let g : flatFits (flat t v) ≡ true = cc (not-false fit h) in rw (g, a, ← parts) e

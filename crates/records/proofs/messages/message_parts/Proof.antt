@@ -1,0 +1,51 @@
+-- Each arm puts the fields of its kind at the letters of the kind's row.
+use borrow.Author.Needs.{needs}
+use Rattle.records.proofs.messages.message_parts.Statement.{statement}
+use Rattle.records.proofs.messages.message_parts.Tie as tie
+
+pub message-parts-spec : {M : Type 1} → statement M
+message-parts-spec =
+    tie.close
+    (tie.spec
+    (λ c. search needs)
+    (λ c. search needs)
+    (λ c. search needs)
+    (λ c. search needs)
+    (λ c. search needs)
+    (λ c. search needs)
+    (λ c. search needs)
+    (λ c. search needs)
+    (λ c. search needs)
+    (λ c. search needs)
+    (λ c. search needs)
+    (λ c. search needs)
+    (λ c. search needs)
+    (λ c. search needs)
+    (λ c. search needs)
+    (λ c. search needs)
+    (λ c. search needs)
+    (λ c. search needs)
+    (λ c. search needs)
+    (λ c. search needs)
+    (λ c. search needs)
+    (λ c. rw (c .before .m .given .1))
+    (λ c. rw (c .before .m2 .given .1))
+    (λ c. rw (c .before .m3 .given .1))
+    (λ c. rw (c .before .m4 .given .1))
+    (λ c. rw (c .before .m5 .given .1))
+    (λ c. rw (c .before .m6 .given .1))
+    (λ c. rw (c .before .m7 .given .1))
+    (λ c. rw (c .before .m8 .given .1))
+    (λ c. rw (c .before .m9 .given .1))
+    (λ c. rw (c .before .m10 .given .1))
+    (λ c. rw (c .before .m11 .given .1))
+    (λ c. rw (c .enum-told .given .1))
+    (λ c. rw (c .before .m12 .given .1))
+    (λ c. rw (c .before .m13 .given .1))
+    (λ c. rw (c .enum-told2 .given .1))
+    (λ c. rw (c .enum-told3 .given .1))
+    (λ c. rw (c .before .m14 .given .1))
+    (λ c. rw (c .before .m15 .given .1))
+    (λ c. rw (c .enum-told4 .given .1))
+    (λ c. rw (c .before .m16 .given .1))
+    (λ c. rw (c .before .m17 .given .1)))

@@ -1,0 +1,141 @@
+-- A record without its meaning: a kind, and a body of letters with their values, from bytes and into bytes.
+use Prim.Native.Nat.{ℕ, suc, _+_}
+use mathlib.Core.Bool.{Bool, true, false, cond, _&&_}
+use mathlib.Core.List.{List, [], _∷_, _++_}
+use mathlib.Core.Option.{Option, none, some}
+use mathlib.Core.Path.{_≡_}
+use lib.Dec.{leb, eqb}
+use lib.ListN.{length}
+use lib.Seq.{sets}
+use Rattle.records.specs.Bytes.{number, bytes}
+use Rattle.records.specs.Letters.{Letter, byte, word, long, width, fits}
+use Rattle.records.specs.declared.bodies.Shape.{Shape}
+use Rattle.records.specs.declared.bodies.Fields.{Fields}
+use Rattle.records.specs.declared.bodies.Parts.{Parts}
+use Rattle.records.specs.declared.bodies.Frame.{Frame}
+use Rattle.records.specs.declared.bodies.Body.{Body}
+use Rattle.records.specs.declared.bodies.Written.{Written}
+
+-- a value for each letter
+abbrev pub Values : List Letter → Type 0
+Values [] = Unit {0}
+Values (l ∷ ls) = ℕ × Values ls
+
+-- how many bytes the letters take
+abbrev pub size : List Letter → ℕ
+size [] = 0
+size (l ∷ ls) = width l + size ls
+
+-- what comes of a value that may be missing
+abbrev pub andThen : {A B : Type 0} → Option A → (A → Option B) → Option B
+andThen none f = none
+andThen (some a) f = f a
+
+-- a letter's value at a position, where it is in the letter's range
+unfoldable pub valueAt : Letter → List ℕ → ℕ → Option ℕ
+valueAt l s at = cond (fits l (number (width l) s at)) (some (number (width l) s at)) none
+
+-- the letters' values, one after the other from a position on
+unfoldable pub valuesAt : (ls : List Letter) → List ℕ → ℕ → Option (Values ls)
+valuesAt [] s at = some tt
+valuesAt (l ∷ ls) s at = andThen (valueAt l s at) (λ v. andThen (valuesAt ls s (at + width l)) (λ vs. some (v, vs)))
+
+-- the numbers at the letters, one after the other from a position on
+unfoldable pub numbersAt : (ls : List Letter) → List ℕ → ℕ → Values ls
+numbersAt [] s at = tt
+numbersAt (l ∷ ls) s at = (number (width l) s at, numbersAt ls s (at + width l))
+
+-- the kind, where at least four bytes came and as many as the length says
+unfoldable pub kindIn : List ℕ → Option ℕ
+kindIn s = cond (leb 4 (length s)) (cond (eqb (number 2 s 0) (length s)) (some (number 2 s 2)) none) none
+
+-- the values of a body that has the letters' size
+unfoldable pub bodyOf : (ls : List Letter) → List ℕ → Option (Values ls)
+bodyOf ls s = cond (eqb (length s) (4 + size ls)) (valuesAt ls s 4) none
+
+-- every value is in its letter's range
+unfoldable pub allFit : (ls : List Letter) → Values ls → Bool
+allFit [] vs = true
+allFit (l ∷ ls) vs = fits l (vs .0) && allFit ls (vs .1)
+
+unfoldable pub bodyBytes : (ls : List Letter) → Values ls → List ℕ
+bodyBytes [] vs = []
+bodyBytes (l ∷ ls) vs = bytes (width l) (vs .0) ++ bodyBytes ls (vs .1)
+
+-- a kind, letters and their values
+pub record Flat : Type 0 where
+  pub kind : ℕ
+  pub letters : List Letter
+  pub values : Values letters
+
+unfoldable pub flatSize : Flat → ℕ
+flatSize f = 4 + size (f .letters)
+
+unfoldable pub flatFits : Flat → Bool
+flatFits f = allFit (f .letters) (f .values)
+
+-- length, kind and body
+unfoldable pub flatBytes : Flat → List ℕ
+flatBytes f = bytes 2 (flatSize f) ++ (bytes 2 (f .kind) ++ bodyBytes (f .letters) (f .values))
+
+-- what a writer answers: how many bytes it wrote, or the number of the refusal
+pub data Wrote : Type 0 where
+  wrote : ℕ → Wrote
+  notWritten : ℕ → Wrote
+
+-- bytes into a lent buffer: the answer, and the buffer then. 4 where a field is out of range, then 7 where the bytes do not fit
+unfoldable pub written : Bool → List ℕ → List ℕ → Wrote × List ℕ
+written ok out buffer =
+    cond ok
+    (cond (leb (length out) (length buffer)) (wrote (length out), sets buffer 0 out) (notWritten 7, buffer))
+    (notWritten 4, buffer)
+
+-- bytes stored from a position on, where they fit, and the position after them
+unfoldable pub laid : List ℕ → List ℕ → ℕ → List ℕ
+laid out buffer at = cond (leb (at + length out) (length buffer)) (sets buffer at out) buffer
+
+unfoldable pub laidNext : List ℕ → List ℕ → ℕ → ℕ
+laidNext out buffer at = cond (leb (at + length out) (length buffer)) (at + length out) at
+
+-- bytes stored from a position on: the position after them, and the buffer then
+pub record Stored (old : List ℕ) (at : ℕ) (xs : List ℕ) (next : ℕ) (new : List ℕ) : Type 0 where
+  pub end : next ≡ at + length xs
+  pub now : new ≡ sets old at xs
+
+-- the code's types, in these terms
+
+abbrev pub lettersOf : Shape → List Letter
+lettersOf Shape.Nothing = []
+lettersOf (Shape.Byte b) = byte b ∷ []
+lettersOf (Shape.Word w) = word w ∷ []
+lettersOf (Shape.WordByte w b) = word w ∷ byte b ∷ []
+lettersOf (Shape.WordByteByte w b c) = word w ∷ byte b ∷ byte c ∷ []
+lettersOf (Shape.WordByteByteByte w b c d) = word w ∷ byte b ∷ byte c ∷ byte d ∷ []
+lettersOf (Shape.WordLongByte w a b) = word w ∷ long a ∷ byte b ∷ []
+lettersOf (Shape.LongByteByte a b c) = long a ∷ byte b ∷ byte c ∷ []
+
+abbrev pub valuesOf : (shape : Shape) → Fields → Values (lettersOf shape)
+valuesOf Shape.Nothing f = tt
+valuesOf (Shape.Byte b) f = (f .first, tt)
+valuesOf (Shape.Word w) f = (f .word, tt)
+valuesOf (Shape.WordByte w b) f = (f .word, (f .first, tt))
+valuesOf (Shape.WordByteByte w b c) f = (f .word, (f .first, (f .second, tt)))
+valuesOf (Shape.WordByteByteByte w b c d) f = (f .word, (f .first, (f .second, (f .third, tt))))
+valuesOf (Shape.WordLongByte w a b) f = (f .word, (f .long, (f .first, tt)))
+valuesOf (Shape.LongByteByte a b c) f = (f .long, (f .first, (f .second, tt)))
+
+abbrev pub partsOf : Parts → Flat
+partsOf p = record { kind = p .kind; letters = lettersOf (p .shape); values = valuesOf (p .shape) (p .fields) }
+
+abbrev pub asFrame : Frame → Option ℕ
+asFrame (Frame.Kind k) = some k
+asFrame Frame.Bad = none
+
+abbrev pub asBody : (shape : Shape) → Body → Option (Values (lettersOf shape))
+asBody shape (Body.Is f) = some (valuesOf shape f)
+asBody shape Body.Bad = none
+
+abbrev pub asWrote : Written → Wrote
+asWrote (Written.Count n) = wrote n
+asWrote Written.BadField = notWritten 4
+asWrote Written.NoRoom = notWritten 7

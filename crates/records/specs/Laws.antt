@@ -1,0 +1,54 @@
+-- What holds of the tables, and of what is read and written by them. The proofs are in proofs/Tables and proofs/RoundTrip.
+use Prim.Native.Nat.{ℕ, _+_, _<_}
+use mathlib.Core.Path.{_≡_}
+use mathlib.Core.Bool.{Bool, true, false, _&&_, not}
+use mathlib.Core.List.{List, [], _∷_, _++_, map}
+use mathlib.Core.Option.{some}
+use lib.Dec.{eqb, ltb}
+use lib.ListN.{getD, take}
+use Rattle.records.specs.Bodies.{Values, Wrote, wrote, size, flatBytes}
+use Rattle.records.specs.Tables.{Table, taken, find, read, flat, fine, write}
+
+-- no number stands twice in a list
+abbrev pub missing : ℕ → List ℕ → Bool
+missing n [] = true
+missing n (m ∷ ms) = not (eqb n m) && missing n ms
+
+abbrev pub distinct : List ℕ → Bool
+distinct [] = true
+distinct (n ∷ ns) = missing n ns && distinct ns
+
+abbrev pub every : {A : Type 0} → (A → Bool) → List A → Bool
+every p [] = true
+every p (x ∷ xs) = p x && every p xs
+
+module _ (t : Table) where
+  -- the numbers of the kinds
+  abbrev pub numbers : List ℕ
+  numbers = map (λ k. t .rowOf k .number) (t .kinds)
+
+  -- what the tables meet, line by line
+  pub record Lawful : Type 0 where
+    -- a kind and values are taken apart as they were put together, and the other way round
+    pub together : (k : t .Kind) (vs : Values (t .rowOf k .letters)) → _≡_ {A = (k : t .Kind) × Values (t .rowOf k .letters)} (t .apart (t .valueOf k vs)) (k, vs)
+    pub again : (v : t .Value) → t .valueOf (t .apart v .0) (t .apart v .1) ≡ v
+    -- a kind's number leads to it
+    pub found : (k : t .Kind) → find t (t .rowOf k .number) (t .kinds) ≡ some k
+    -- numbers and lengths take two bytes
+    pub narrow : every (λ k. ltb (t .rowOf k .number) 65536 && ltb (4 + size (t .rowOf k .letters)) 65536) (t .kinds) ≡ true
+
+  -- what is written reads back as the same value
+  abbrev pub WrittenReadsBack : Type 0
+  WrittenReadsBack = (v : t .Value) → fine t v ≡ true → read t (flatBytes (flat t v)) ≡ taken v
+
+  -- the same over a writer: the bytes that it counts, of the buffer that it leaves
+  abbrev pub WriterReadsBack : Type 0
+  WriterReadsBack = (v : t .Value) (n : ℕ) (buffer after : List ℕ) → write t v buffer ≡ (wrote n, after) → read t (take n after) ≡ taken v
+
+  -- what is read is written back as the same bytes
+  abbrev pub ReadIsWrittenBack : Type 0
+  ReadIsWrittenBack = (v : t .Value) (s : List ℕ) → ((i : ℕ) → getD s i 0 < 256) → read t s ≡ taken v → (flatBytes (flat t v) ≡ s) × (fine t v ≡ true)
+
+-- a promise that says `f result ≡ x` leaves one result, whatever x is
+abbrev pub Determines : {A B : Type 0} → (A → B) → Type 0
+Determines {A} {B} f = (x : B) (r₁ r₂ : A) → f r₁ ≡ x → f r₂ ≡ x → r₁ ≡ r₂

@@ -1,0 +1,268 @@
+// A record without its meaning: a kind, and a body of letters with their values, from bytes and into bytes.
+ghost use mathlib.Core.Path.{_≡_};
+ghost use mathlib.Core.Bool.{true};
+ghost use mathlib.Core.List.{List};
+ghost use Prim.Native.Nat.{ℕ, _+_, _<_, _≤_};
+ghost use lib.ListN.{length};
+ghost use Rattle.records.specs.Bytes.{number, bytes};
+ghost use Rattle.records.specs.Letters.{Letter};
+ghost use Rattle.records.specs.Bodies.{Wrote, Stored, size, lettersOf, valuesOf, kindIn, bodyOf, numbersAt, allFit, bodyBytes, partsOf, flatBytes, flatFits, flatSize, laid, laidNext, written, asFrame, asBody, asWrote};
+use crate::letters::Byte;
+use crate::letters::Long;
+use crate::letters::Word;
+use crate::letters::byte_fits;
+use crate::letters::long_fits;
+use crate::letters::word_fits;
+
+// The letters of a body, by their widths: the eight that the tables have.
+pub enum Shape {
+    Nothing,
+    Byte(Byte),
+    Word(Word),
+    WordByte(Word, Byte),
+    WordByteByte(Word, Byte, Byte),
+    WordByteByteByte(Word, Byte, Byte, Byte),
+    WordLongByte(Word, Long, Byte),
+    LongByteByte(Long, Byte, Byte),
+}
+
+// The values of a body: the u16, the u32 and the bytes in their order. What a shape lacks means nothing.
+pub struct Fields {
+    pub word: u16,
+    pub long: u32,
+    pub first: u8,
+    pub second: u8,
+    pub third: u8,
+}
+
+// A record taken apart.
+pub struct Parts {
+    pub kind: u16,
+    pub shape: Shape,
+    pub fields: Fields,
+}
+
+// The kind that a record's head gives, or none where its length is wrong.
+pub enum Frame {
+    Kind(u16),
+    Bad,
+}
+
+// What a body holds, or that its size or a letter's value is wrong.
+pub enum Body {
+    Is(Fields),
+    Bad,
+}
+
+// What a writer answers: the count of bytes stored, a field out of range (4), or a buffer too short (7).
+pub enum Written {
+    Count(usize),
+    BadField,
+    NoRoom,
+}
+
+fn word_at(s: &[u8], at: usize) -> u16
+    requires { ⌜ at + 2 ≤ length (now s) ⌝ }
+    ensures { λ r. ⌜ r ≡ number 2 (now (s .entry)) at ⌝ }
+{
+    let low = s[at] as u16;
+    let high = s[at + 1] as u16;
+    low + 256 * high
+}
+
+fn long_at(s: &[u8], at: usize) -> u32
+    requires { ⌜ at + 4 ≤ length (now s) ⌝ }
+    ensures { λ r. ⌜ r ≡ number 4 (now (s .entry)) at ⌝ }
+{
+    let low = word_at(s, at) as u32;
+    let high = word_at(s, at + 2) as u32;
+    low + 65536 * high
+}
+
+// The kind, where at least four bytes came and as many as the length says.
+pub fn kind_in(s: &[u8]) -> Frame
+    ensures { λ r. ⌜ asFrame r ≡ kindIn (now (s .entry)) ⌝ }
+{
+    if s.len() < 4 {
+        return Frame::Bad;
+    }
+    let said = word_at(s, 0) as usize;
+    if said != s.len() {
+        return Frame::Bad;
+    }
+    Frame::Kind(word_at(s, 2))
+}
+
+// How many bytes a shape's letters take.
+fn size_of(shape: Shape) -> u8
+    ensures { λ r. ⌜ r ≡ size (lettersOf shape) ⌝ }
+{
+    match shape {
+        Shape::Nothing => 0,
+        Shape::Byte(_) => 1,
+        Shape::Word(_) => 2,
+        Shape::WordByte(_, _) => 3,
+        Shape::WordByteByte(_, _, _) => 4,
+        Shape::WordByteByteByte(_, _, _, _) => 5,
+        Shape::WordLongByte(_, _, _) => 7,
+        Shape::LongByteByte(_, _, _) => 6,
+    }
+}
+
+// The numbers of a body, in a record of the shape's size.
+fn fields_in(s: &[u8], shape: Shape) -> Fields
+    requires { ⌜ length (now s) ≡ 4 + size (lettersOf shape) ⌝ }
+    ensures { λ r. ⌜ valuesOf shape r ≡ numbersAt (lettersOf shape) (now (s .entry)) 4 ⌝ }
+{
+    match shape {
+        Shape::Nothing => Fields { word: 0, long: 0, first: 0, second: 0, third: 0 },
+        Shape::Byte(_) => Fields { word: 0, long: 0, first: s[4], second: 0, third: 0 },
+        Shape::Word(_) => Fields { word: word_at(s, 4), long: 0, first: 0, second: 0, third: 0 },
+        Shape::WordByte(_, _) => Fields { word: word_at(s, 4), long: 0, first: s[6], second: 0, third: 0 },
+        Shape::WordByteByte(_, _, _) => Fields { word: word_at(s, 4), long: 0, first: s[6], second: s[7], third: 0 },
+        Shape::WordByteByteByte(_, _, _, _) => Fields { word: word_at(s, 4), long: 0, first: s[6], second: s[7], third: s[8] },
+        Shape::WordLongByte(_, _, _) => Fields { word: word_at(s, 4), long: long_at(s, 6), first: s[10], second: 0, third: 0 },
+        Shape::LongByteByte(_, _, _) => Fields { word: 0, long: long_at(s, 4), first: s[8], second: s[9], third: 0 },
+    }
+}
+
+// Whether every value is in its letter's range.
+fn fields_fit(shape: Shape, f: Fields) -> bool
+    ensures { λ r. ⌜ r ≡ allFit (lettersOf shape) (valuesOf shape f) ⌝ }
+{
+    match shape {
+        Shape::Nothing => true,
+        Shape::Byte(b) => byte_fits(b, f.first),
+        Shape::Word(w) => word_fits(w, f.word),
+        Shape::WordByte(w, b) => word_fits(w, f.word) & byte_fits(b, f.first),
+        Shape::WordByteByte(w, b, c) => word_fits(w, f.word) & (byte_fits(b, f.first) & byte_fits(c, f.second)),
+        Shape::WordByteByteByte(w, b, c, d) => word_fits(w, f.word) & (byte_fits(b, f.first) & (byte_fits(c, f.second) & byte_fits(d, f.third))),
+        Shape::WordLongByte(w, a, b) => word_fits(w, f.word) & (long_fits(a, f.long) & byte_fits(b, f.first)),
+        Shape::LongByteByte(a, b, c) => long_fits(a, f.long) & (byte_fits(b, f.first) & byte_fits(c, f.second)),
+    }
+}
+
+// What the body of a record holds, where it has the shape's size and every value fits.
+pub fn body_in(s: &[u8], shape: Shape) -> Body
+    ensures { λ r. ⌜ asBody shape r ≡ bodyOf (lettersOf shape) (now (s .entry)) ⌝ }
+{
+    if s.len() != 4 + size_of(shape) as usize {
+        return Body::Bad;
+    }
+    let fields = fields_in(s, shape);
+    if fields_fit(shape, fields) {
+        Body::Is(fields)
+    } else {
+        Body::Bad
+    }
+}
+
+// Whether every value of a record is in its letter's range.
+pub fn parts_fit(parts: Parts) -> bool
+    ensures { λ r. ⌜ r ≡ flatFits (partsOf parts) ⌝ }
+{
+    let shape = parts.shape;
+    let fields = parts.fields;
+    fields_fit(shape, fields)
+}
+
+// How many bytes a record takes.
+pub fn parts_size(parts: Parts) -> usize
+    ensures { λ r. ⌜ r ≡ flatSize (partsOf parts) ⌝ }
+{
+    let shape = parts.shape;
+    4 + size_of(shape) as usize
+}
+
+// Each stores at a position and answers the next one.
+
+fn put_byte(buffer: &mut [u8], at: usize, v: u8) -> usize
+    requires { ⌜ at < length (now buffer) ⌝ }
+    ensures { λ r. ⌜ Stored (now (buffer .entry)) at (bytes 1 v) r (now (buffer .exit)) ⌝ }
+{
+    buffer[at] = v;
+    at + 1
+}
+
+fn put_word(buffer: &mut [u8], at: usize, v: u16) -> usize
+    requires { ⌜ at + 2 ≤ length (now buffer) ⌝ }
+    ensures { λ r. ⌜ Stored (now (buffer .entry)) at (bytes 2 v) r (now (buffer .exit)) ⌝ }
+{
+    buffer[at] = (v % 256) as u8;
+    buffer[at + 1] = (v / 256 % 256) as u8;
+    at + 2
+}
+
+fn put_long(buffer: &mut [u8], at: usize, v: u32) -> usize
+    requires { ⌜ at + 4 ≤ length (now buffer) ⌝ }
+    ensures { λ r. ⌜ Stored (now (buffer .entry)) at (bytes 4 v) r (now (buffer .exit)) ⌝ }
+{
+    let next = put_word(buffer, at, (v % 65536) as u16);
+    put_word(buffer, next, (v / 65536 % 65536) as u16)
+}
+
+fn put_body(buffer: &mut [u8], at: usize, shape: Shape, f: Fields) -> usize
+    requires { ⌜ at + size (lettersOf shape) ≤ length (now buffer) ⌝ }
+    ensures { λ r. ⌜ Stored (now (buffer .entry)) at (bodyBytes (lettersOf shape) (valuesOf shape f)) r (now (buffer .exit)) ⌝ }
+{
+    match shape {
+        Shape::Nothing => at,
+        Shape::Byte(_) => put_byte(buffer, at, f.first),
+        Shape::Word(_) => put_word(buffer, at, f.word),
+        Shape::WordByte(_, _) => {
+            let one = put_word(buffer, at, f.word);
+            put_byte(buffer, one, f.first)
+        }
+        Shape::WordByteByte(_, _, _) => {
+            let one = put_word(buffer, at, f.word);
+            let two = put_byte(buffer, one, f.first);
+            put_byte(buffer, two, f.second)
+        }
+        Shape::WordByteByteByte(_, _, _, _) => {
+            let one = put_word(buffer, at, f.word);
+            let two = put_byte(buffer, one, f.first);
+            let three = put_byte(buffer, two, f.second);
+            put_byte(buffer, three, f.third)
+        }
+        Shape::WordLongByte(_, _, _) => {
+            let one = put_word(buffer, at, f.word);
+            let two = put_long(buffer, one, f.long);
+            put_byte(buffer, two, f.first)
+        }
+        Shape::LongByteByte(_, _, _) => {
+            let one = put_long(buffer, at, f.long);
+            let two = put_byte(buffer, one, f.first);
+            put_byte(buffer, two, f.second)
+        }
+    }
+}
+
+// Stores a record from a position on where it fits, and answers the position after it.
+pub fn lay_parts(parts: Parts, buffer: &mut [u8], at: usize) -> usize
+    ensures { λ r. ⌜ _≡_ {A = ℕ × List ℕ} (r, now (buffer .exit)) (laidNext (flatBytes (partsOf parts)) (now (buffer .entry)) at, laid (flatBytes (partsOf parts)) (now (buffer .entry)) at) ⌝ }
+{
+    let shape = parts.shape;
+    let fields = parts.fields;
+    let size = 4 + size_of(shape) as usize;
+    if buffer.len() < at {
+        return at;
+    }
+    if buffer.len() - at < size {
+        return at;
+    }
+    let kind_at = put_word(buffer, at, size as u16);
+    let body_at = put_word(buffer, kind_at, parts.kind);
+    put_body(buffer, body_at, shape, fields)
+}
+
+// Stores a record whose values fit at the front of a lent buffer.
+pub fn write_parts(parts: Parts, buffer: &mut [u8]) -> Written
+    ensures { λ r. ⌜ _≡_ {A = Wrote × List ℕ} (asWrote r, now (buffer .exit)) (written true (flatBytes (partsOf parts)) (now (buffer .entry))) ⌝ }
+{
+    let size = parts_size(parts);
+    if buffer.len() < size {
+        return Written::NoRoom;
+    }
+    lay_parts(parts, buffer, 0);
+    Written::Count(size)
+}
