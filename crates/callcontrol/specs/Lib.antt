@@ -1,0 +1,3 @@
+pub mod Call
+pub mod Draft
+pub mod Rows

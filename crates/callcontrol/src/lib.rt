@@ -1,0 +1,3 @@
+pub mod call;
+mod draft;
+mod rows;
