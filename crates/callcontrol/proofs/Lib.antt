@@ -1,1 +1,3 @@
 pub mod Tags
+pub mod Laying
+pub mod Carried

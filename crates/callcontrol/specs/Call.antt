@@ -83,10 +83,11 @@ a ⇒ b = not a || b
 
 infixr 25 _⇒_
 
--- every timer of a list is stopped
-unfoldable pub allStopped : List Bool → Bool
-allStopped [] = true
-allStopped (t ∷ ts) = not t && allStopped ts
+-- none of the seven runs
+unfoldable pub allStopped : Call → Bool
+allStopped call =
+    not (runs call T301) && not (runs call T302) && not (runs call T303) && not (runs call T306) && not (runs call T308)
+    && not (runs call T310) && not (runs call T311)
 
 -- the numbers in range
 unfoldable pub inRange : Call → Bool
@@ -98,7 +99,7 @@ inRange call =
 unfoldable pub asFresh : Call → Bool
 asFresh call =
     eqb (call .id) 0 && eqb (call .address) 0 && eqb (call .mode) 0 && eqb (call .asked) 0 && eqb (call .sent) 0 && isUp call
-    && eqb (call .plane) 4 && eqb (call .kept) 4 && eqb (call .code) 0 && allStopped (call .timers)
+    && eqb (call .plane) 4 && eqb (call .kept) 4 && eqb (call .code) 0 && allStopped call
 
 -- T311 runs exactly when plane is 1; T306 runs exactly when restoring
 unfoldable pub timersAgree : Call → Bool

@@ -1,6 +1,6 @@
 // The call record, and what makes it sound.
 ghost use mathlib.Core.Path.{_≡_};
-ghost use Rattle.callcontrol.specs.Call.{freshCall};
+ghost use Rattle.callcontrol.specs.Call.{freshCall, isIdle, stateNumber, pathNumber, mayLackId, allStopped, inRange, asFresh, timersAgree, placesAgree, sound};
 
 // Where the call is. The numbers are those of a host's record.
 pub enum State {
@@ -51,6 +51,43 @@ pub struct Call {
     pub timers: [bool; 7],
 }
 
+fn state_number(state: State) -> u8
+    ensures { λ r. ⌜ r ≡ stateNumber state ⌝ }
+{
+    match state {
+        State::Idle => 0,
+        State::MoCallSetup => 1,
+        State::MtCallSetup => 2,
+        State::CallActive => 3,
+        State::Wait => 4,
+        State::CallDisconnect => 5,
+    }
+}
+
+fn path_number(path: Path) -> u8
+    ensures { λ r. ⌜ r ≡ pathNumber path ⌝ }
+{
+    match path {
+        Path::Up => 0,
+        Path::Broken => 1,
+        Path::Restoring => 2,
+    }
+}
+
+// Whether a call in this state may have no identifier.
+fn may_lack_id(state: State) -> bool
+    ensures { λ r. ⌜ r ≡ mayLackId state ⌝ }
+{
+    match state {
+        State::Idle => true,
+        State::MoCallSetup => true,
+        State::MtCallSetup => false,
+        State::CallActive => false,
+        State::Wait => false,
+        State::CallDisconnect => true,
+    }
+}
+
 impl Call {
     pub const ID_MOST: u16 = 16383;
     pub const ADDRESS_MOST: u32 = 16777215;
@@ -74,5 +111,82 @@ impl Call {
             code: 0,
             timers: [false; 7],
         }
+    }
+
+    pub fn is_idle(self) -> bool
+        ensures { λ r. ⌜ r ≡ isIdle self ⌝ }
+    {
+        let state = self.state;
+        state_number(state) == 0
+    }
+
+    fn all_stopped(self) -> bool
+        ensures { λ r. ⌜ r ≡ allStopped self ⌝ }
+    {
+        let t = self.timers;
+        !t[0] & !t[1] & !t[2] & !t[3] & !t[4] & !t[5] & !t[6]
+    }
+
+    fn in_range(self) -> bool
+        ensures { λ r. ⌜ r ≡ inRange self ⌝ }
+    {
+        (self.id <= Self::ID_MOST)
+            & (self.address <= Self::ADDRESS_MOST)
+            & (self.mode <= 1)
+            & (self.asked <= 1)
+            & (self.sent <= 1)
+            & (1 <= self.plane)
+            & (self.plane <= Self::OFF)
+            & (1 <= self.kept)
+            & (self.kept <= Self::OFF)
+            & (self.code <= Self::CODE_MOST)
+    }
+
+    // All but the state as in the fresh record.
+    fn as_fresh(self) -> bool
+        ensures { λ r. ⌜ r ≡ asFresh self ⌝ }
+    {
+        let path = self.path;
+        (self.id == 0)
+            & (self.address == 0)
+            & (self.mode == 0)
+            & (self.asked == 0)
+            & (self.sent == 0)
+            & (path_number(path) == 0)
+            & (self.plane == Self::OFF)
+            & (self.kept == Self::OFF)
+            & (self.code == 0)
+            & self.all_stopped()
+    }
+
+    // T311 runs exactly when plane is 1; T306 runs exactly when restoring.
+    fn timers_agree(self) -> bool
+        ensures { λ r. ⌜ r ≡ timersAgree self ⌝ }
+    {
+        let t = self.timers;
+        let path = self.path;
+        (t[6] == (self.plane == 1)) & (t[3] == (path_number(path) == 2))
+    }
+
+    // Plane is 4 unless CALL-ACTIVE with path up; path is up unless CALL-ACTIVE; kept plane is 4 unless WAIT; identifier 0 only in IDLE,
+    // MO-CALL-SETUP, CALL-DISCONNECT.
+    fn places_agree(self) -> bool
+        ensures { λ r. ⌜ r ≡ placesAgree self ⌝ }
+    {
+        let state = self.state;
+        let path = self.path;
+        let s = state_number(state);
+        let p = path_number(path);
+        ((self.plane == Self::OFF) | ((s == 3) & (p == 0)))
+            & ((p == 0) | (s == 3))
+            & ((self.kept == Self::OFF) | (s == 4))
+            & ((1 <= self.id) | may_lack_id(state))
+    }
+
+    // What the paper calls sound.
+    pub fn sound(self) -> bool
+        ensures { λ r. ⌜ r ≡ sound self ⌝ }
+    {
+        self.in_range() & (!self.is_idle() | self.as_fresh()) & self.timers_agree() & self.places_agree()
     }
 }

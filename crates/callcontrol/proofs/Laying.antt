@@ -1,0 +1,120 @@
+-- Messages laid one after the other are their bytes stored one after the other, and how many bytes they are.
+use Prim.Native.Nat.{ℕ, suc, _+_, _*_, _≤_}
+use mathlib.Core.Path.{_≡_, refl, sym, _∙_, ap}
+use mathlib.Core.Bool.{Bool, true, false, cond, not}
+use mathlib.Core.List.{List, [], _∷_, _++_, append-nil, append-assoc}
+use native.Mathlib.Omega.{arith}
+use borrow.Author.Tests.{le-leb}
+use native.Mathlib.Nat.{mul-add}
+use lib.Dec.{eqb, lit≤}
+use lib.ListN.{length, length-append, getD}
+use lib.Seq.{sets, length-sets}
+use Rattle.records.specs.declared.messages.Message.{Message}
+use Rattle.records.specs.Bodies.{laid, laidNext, flatSize}
+use Rattle.records.specs.Tables.{flat}
+use Rattle.records.specs.Messages.{messages, messageBytes, messageSize}
+use Rattle.records.proofs.Laws.{sets-append, length-flatBytes}
+use Rattle.callcontrol.specs.declared.draft.Draft.{Draft}
+use Rattle.callcontrol.specs.Call.{T301, T302, T303, T306, T308, T310, T311}
+use Rattle.callcontrol.specs.Orders.{when, held, byNumber, starting, orders, bytesOf, layAll, Laid, countOf}
+
+-- what is laid in two parts
+lay-append : (ms ns : List Message) (at : ℕ) (b : List ℕ) → layAll (ms ++ ns) at b ≡ layAll ns (layAll ms at b .0) (layAll ms at b .1)
+unfolding layAll
+lay-append [] ns at b = refl
+lay-append (m ∷ ms) ns at b = lay-append ms ns (laidNext (messageBytes m) b at) (laid (messageBytes m) b at)
+
+pub lay-then : {a b c : List ℕ} {at r e : ℕ} {ms ns : List Message} → Laid a at ms r b → Laid b r ns e c → Laid a at (ms ++ ns) e c
+lay-then {a} {b} {c} {at} {r} {e} {ms} {ns} p q =
+    record
+    { is = q .is ∙ ap (λ (w : ℕ × List ℕ). layAll ns (w .0) (w .1)) (p .is) ∙ sym (lay-append ms ns at a) }
+
+size-bytes : (m : Message) → length (messageBytes m) ≡ messageSize m
+unfolding messageBytes messageSize
+size-bytes m = length-flatBytes (flat messages m)
+
+-- where all of them fit, they are stored whole
+pub lay-fits : (ms : List Message) (at : ℕ) (b : List ℕ) → at + length (bytesOf ms) ≤ length b
+    → layAll ms at b ≡ (at + length (bytesOf ms), sets b at (bytesOf ms))
+unfolding layAll bytesOf laid laidNext
+lay-fits [] at b h = λ i. ((sym (let z : at + 0 ≡ at = omega arith in z)) i, b)
+lay-fits (m ∷ ms) at b h =
+    let n = length-append (messageBytes m) (bytesOf ms) in
+    let here : at + length (messageBytes m) ≤ length b = omega (arith, n) in
+    let later : at + length (messageBytes m) + length (bytesOf ms) ≤ length (sets b at (messageBytes m)) =
+            omega (arith, n, length-sets b at (messageBytes m)) in
+    let sum : at + length (messageBytes m) + length (bytesOf ms) ≡ at + length (messageBytes m ++ bytesOf ms) = omega (arith, n) in
+    rw (le-leb _ _ here)
+    (lay-fits ms (at + length (messageBytes m)) (sets b at (messageBytes m)) later
+    ∙ (λ i. (sum i, sym (sets-append (messageBytes m) b (bytesOf ms) at) i)))
+
+-- how many bytes some messages take
+
+pub size-append : (ms ns : List Message) → length (bytesOf (ms ++ ns)) ≡ length (bytesOf ms) + length (bytesOf ns)
+unfolding bytesOf
+size-append [] ns = omega arith
+size-append (m ∷ ms) ns =
+    omega (arith, length-append (messageBytes m) (bytesOf (ms ++ ns)), length-append (messageBytes m) (bytesOf ms), size-append ms ns)
+
+pub size-one : (m : Message) → length (bytesOf (m ∷ [])) ≡ messageSize m
+unfolding bytesOf
+size-one m = omega (arith, length-append (messageBytes m) [], size-bytes m)
+
+pub size-when : (b : Bool) (m : Message) (n : ℕ) → messageSize m ≡ n → length (bytesOf (when b m)) ≡ n * cond b 1 0
+unfolding bytesOf
+size-when true m n e = omega (arith, size-one m)
+size-when false m n e = omega arith
+
+whole : (b : Bool) (m : Message) (n : ℕ) → messageSize m ≡ n → length (bytesOf (when b m)) ≡ cond b n 0
+unfolding bytesOf
+whole true m n e = size-one m ∙ e
+whole false m n e = refl
+
+-- a timer order for each flag takes the same number of bytes
+pub size-byNumber : (order : ℕ → Message) (flags : List Bool) (n : ℕ) → ((k : ℕ) → messageSize (order k) ≡ n)
+    → length (bytesOf (byNumber order flags)) ≡ n * countOf flags
+unfolding byNumber countOf
+size-byNumber order flags n e =
+    let w : (k p : ℕ) → length (bytesOf (when (getD flags p false) (order k))) ≡ n * cond (getD flags p false) 1 0 =
+            λ k p. size-when (getD flags p false) (order k) n (e k) in
+    simp (size-append, mul-add)
+    (omega (arith, w 301 T301, w 302 T302, w 303 T303, w 306 T306, w 308 T308, w 310 T310, w 311 T311))
+
+-- no message takes more than 11 bytes
+pub size-bound : (m : Message) → messageSize m ≤ 11
+unfolding messageSize flatSize
+size-bound (Message.USetup a d q) = lit≤ tt
+size-bound (Message.UConnect i) = lit≤ tt
+size-bound (Message.UDisconnect i c) = lit≤ tt
+size-bound (Message.URelease i) = lit≤ tt
+size-bound (Message.UInfo i d) = lit≤ tt
+size-bound (Message.UTxDemand i) = lit≤ tt
+size-bound (Message.UTxCeased i) = lit≤ tt
+size-bound (Message.UCallRestore i a q) = lit≤ tt
+size-bound (Message.Stop n) = lit≤ tt
+size-bound (Message.Start n o) = lit≤ tt
+size-bound (Message.Configure p) = lit≤ tt
+size-bound Message.Cancel = lit≤ tt
+size-bound (Message.SetupIndication i a d) = lit≤ tt
+size-bound (Message.SetupConfirm i g) = lit≤ tt
+size-bound Message.Proceed = lit≤ tt
+size-bound Message.Alert = lit≤ tt
+size-bound (Message.Complete g) = lit≤ tt
+size-bound (Message.ReleaseIndication c) = lit≤ tt
+size-bound Message.ReleaseConfirm = lit≤ tt
+size-bound (Message.TxIndication x) = lit≤ tt
+size-bound (Message.ModifyIndication d) = lit≤ tt
+
+-- the whole of an order: what its parts take
+pub size-orders : (d : Draft)
+    → length (bytesOf (orders d))
+    ≡ 6 * countOf (d .stops) + cond (d .cancel) 4 0 + length (bytesOf (held (d .pdu))) + 7 * countOf (d .starts)
+    + cond (not (eqb (d .told) 0)) 5 0 + length (bytesOf (held (d .user)))
+unfolding orders messageSize flatSize starting
+size-orders d =
+    let cancel : length (bytesOf (when (d .cancel) Message.Cancel)) ≡ cond (d .cancel) 4 0 = whole (d .cancel) Message.Cancel 4 refl in
+    let plane : length (bytesOf (when (not (eqb (d .told) 0)) (Message.Configure (d .told)))) ≡ cond (not (eqb (d .told) 0)) 5 0 =
+            whole (not (eqb (d .told) 0)) (Message.Configure (d .told)) 5 refl in
+    simp size-append
+    (omega
+    (arith, cancel, plane, size-byNumber Message.Stop (d .stops) 6 (λ k. refl), size-byNumber (starting (d .call .code)) (d .starts) 7 (λ k. refl)))

@@ -1,0 +1,11 @@
+-- The state's number.
+use borrow.Author.Needs.{needs}
+use Rattle.callcontrol.proofs.call.Call.is_idle.Statement.{statement}
+use Rattle.callcontrol.proofs.call.Call.is_idle.Tie as tie
+
+pub is-idle-spec : {M : Type 1} → statement M
+is-idle-spec =
+    tie.close
+    (tie.spec
+    (λ c κs. search needs)
+    (λ c. rw (c .state-number .ensures)))

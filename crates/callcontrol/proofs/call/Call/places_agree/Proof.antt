@@ -1,0 +1,15 @@
+-- The definition is what the code tests.
+use borrow.Author.Needs.{needs}
+use Rattle.callcontrol.specs.Call.{placesAgree}
+use Rattle.callcontrol.proofs.call.Call.places_agree.Statement.{statement}
+use Rattle.callcontrol.proofs.call.Call.places_agree.Tie as tie
+
+pub places-agree-spec : {M : Type 1} → statement M
+unfolding placesAgree
+places-agree-spec =
+    tie.close
+    (tie.spec
+    (λ c κs. search needs)
+    (λ c κs. search needs)
+    (λ c κs. search needs)
+    (λ c. rw (c .may-lack-id .ensures, c .before .before .before .before .path-number .ensures, c .before .before .before .before .before .state-number .ensures)))

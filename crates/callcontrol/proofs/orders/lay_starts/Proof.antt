@@ -1,0 +1,28 @@
+-- The seven orders one after the other.
+use borrow.Author.Needs.{needs}
+use Rattle.callcontrol.specs.Orders.{byNumber, starting}
+use Rattle.callcontrol.proofs.Laying.{lay-then}
+use Rattle.callcontrol.proofs.orders.lay_starts.Statement.{statement}
+use Rattle.callcontrol.proofs.orders.lay_starts.Tie as tie
+
+pub lay-starts-spec : {M : Type 1} → statement M
+unfolding byNumber starting
+lay-starts-spec =
+    tie.close
+    (tie.spec
+    (λ c. search needs)
+    (λ c κs. search needs)
+    (λ c. search needs)
+    (λ c κs. search needs)
+    (λ c. search needs)
+    (λ c κs. search needs)
+    (λ c. search needs)
+    (λ c κs. search needs)
+    (λ c. search needs)
+    (λ c κs. search needs)
+    (λ c. search needs)
+    (λ c κs. search needs)
+    (λ c. search needs)
+    (λ c κs. search needs)
+    (λ c. search needs)
+    (λ c. lay-then (c .before .before .before .before .before .before .before .before .before .before .before .before .before .before .before .before .before .before .before .before .before .before .before .before .before .before .lay-when .ensures) (lay-then (c .before .before .before .before .before .before .before .before .before .before .before .before .before .before .before .before .before .before .before .before .before .before .lay-when2 .ensures) (lay-then (c .before .before .before .before .before .before .before .before .before .before .before .before .before .before .before .before .before .before .lay-when3 .ensures) (lay-then (c .before .before .before .before .before .before .before .before .before .before .before .before .before .before .lay-when4 .ensures) (lay-then (c .before .before .before .before .before .before .before .before .before .before .lay-when5 .ensures) (lay-then (c .before .before .before .before .before .before .lay-when6 .ensures) (c .before .before .lay-when7 .ensures))))))))

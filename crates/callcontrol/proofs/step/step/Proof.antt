@@ -1,0 +1,44 @@
+-- 1 first, then what reading answers, then what the event does.
+use mathlib.Core.Path.{_≡_, refl}
+use mathlib.Core.List.{List, [], _∷_}
+use Prim.Native.Nat.{ℕ}
+use borrow.Author.Needs.{needs}
+use borrow.Author.Tests.{not-true, not-false}
+use denote.Enum.Declared as Declared
+use types.Run.{OneOf, miss}
+use Rattle.records.specs.declared.events.EventRead.{EventRead}
+use Rattle.records.specs.Events.{asEventRead}
+use Rattle.records.proofs.events.EventRead as event-read
+use Rattle.callcontrol.specs.declared.call.Call.{Call}
+use Rattle.callcontrol.specs.Step.{stepOf, refusal, whenRead, answerNumber, unreadAs}
+use Rattle.callcontrol.proofs.step.step.Statement.{statement}
+use Rattle.callcontrol.proofs.step.step.Tie as tie
+
+-- bytes that are no event are refused with the reader's number
+unread-refuses : (r : EventRead) (c : Call) (b : List ℕ) → OneOf (1 ∷ 2 ∷ 3 ∷ []) (Declared.tagOf event-read.the-type r)
+    → refusal (answerNumber (unreadAs r)) c b ≡ whenRead (asEventRead r) c b
+unread-refuses (EventRead.Is e) c b k = absurd (miss (1 ∷ 2 ∷ 3 ∷ []) 0 tt k)
+unread-refuses EventRead.BadLength c b k = refl
+unread-refuses EventRead.UnknownKind c b k = refl
+unread-refuses EventRead.BadBody c b k = refl
+
+pub step-spec : {M : Type 1} → statement M
+unfolding stepOf
+step-spec =
+    tie.close
+    (tie.spec
+    (λ c κs. search needs)
+    (λ c. rw (← c .before .sound .ensures, not-true (c .before .sound .result) (c .if1 .taken)))
+    (λ c κs. search needs)
+    (λ c. search needs)
+    (λ c κs. search needs)
+    (λ c.
+    let s = c .before .before in
+    rw (← s .before .before .sound .ensures, not-false (s .before .before .sound .result) (s .before .if1 .left), ← s .read-event .ensures, c .unread .ensures)
+    (unread-refuses (s .read-event .result) _ _ (c .before .match .keys2)))
+    (λ c κs. search needs)
+    (λ c. search needs)
+    (λ c.
+    let s = c .before .before .before .before .before .before .before in
+    rw (← s .before .before .sound .ensures, not-false (s .before .before .sound .result) (s .before .if1 .left), ← s .read-event .ensures, c .before .before .before .before .before .read .given .1)
+    (c .before .before .decide .ensures)))

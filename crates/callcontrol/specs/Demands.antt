@@ -1,0 +1,167 @@
+-- What the client bought: the three demands over every run, as types. The proofs are in proofs/, under the same names.
+use Prim.Native.Nat.{ℕ}
+use mathlib.Core.Path.{_≡_}
+use mathlib.Core.Bool.{Bool, true, false, cond, not, _&&_, _||_}
+use mathlib.Core.List.{List, [], _∷_, _++_}
+use mathlib.Core.Option.{Option, none, some}
+use lib.Dec.{leb, eqb}
+use lib.ListN.{length}
+use lib.Seq.{sets}
+use Rattle.records.specs.declared.events.Event.{Event}
+use Rattle.records.specs.declared.events.Event.the-variants.{SetupRequest, SetupResponse, ReleaseRequest, TxRequest, ModifyRequest, DCallProceeding, DAlert, DConnect, DConnectAcknowledge, DSetup, DInfo, DTxGranted, DTxCeased, DTxInterrupt, DTxWait, DTxContinue, DCallRestore, DDisconnect, DRelease, ReportSent, ReportFailed, Break, Resume, Expiry}
+use Rattle.records.specs.Tables.{Read, taken, refused, read}
+use Rattle.records.specs.Events.{events}
+use Rattle.callcontrol.specs.declared.call.State.{State}
+use Rattle.callcontrol.specs.declared.call.Path.{Path}
+use Rattle.callcontrol.specs.declared.call.Call.{Call}
+use Rattle.callcontrol.specs.Call.{freshCall, sound, runs, isIdle, T310}
+use Rattle.callcontrol.specs.Rows.{rowFor}
+use Rattle.callcontrol.specs.Orders.{orders, bytesOf}
+use Rattle.callcontrol.specs.Step.{Outcome, refusal, stepOf, otherCall}
+use Rattle.callcontrol.specs.Runs.{Turn, outcome, next, run, takenBy, takenIn, writtenBy, told, ends}
+use Rattle.callcontrol.specs.History.{planeByHistory}
+
+-- Demand 1: every turn gets an answer; the lowest number that applies; a refusal writes no byte and gives the record back
+
+abbrev pub refusedWith : ℕ → Read Event → Bool
+refusedWith n (taken e) = false
+refusedWith n (refused m) = eqb n m
+
+abbrev pub ofEvent : (Event → Bool) → Read Event → Bool
+ofEvent p (taken e) = p e
+ofEvent p (refused m) = false
+
+-- where each answer of the paper's table applies, whatever the others
+unfoldable pub applies : ℕ → Call → List ℕ → List ℕ → Bool
+applies n c bytes buffer =
+    cond (eqb n 1) (not (sound c))
+    (cond (eqb n 5) (ofEvent (λ e. otherCall c e) (read events bytes))
+    (cond (eqb n 6) (ofEvent (λ e. not (rowFor c e .taken)) (read events bytes))
+    (cond (eqb n 7) (ofEvent (λ e. not (leb (length (bytesOf (orders (rowFor c e)))) (length buffer))) (read events bytes))
+    (refusedWith n (read events bytes)))))
+
+-- the first of some numbers that applies, 0 if none does
+abbrev pub first : (ℕ → Bool) → List ℕ → ℕ
+first p [] = 0
+first p (n ∷ ns) = cond (p n) n (first p ns)
+
+-- every record, every byte string and every buffer gets the lowest number that applies, and 0 where none does
+abbrev pub Answered : Type 0
+Answered =
+    (c : Call) (bytes buffer : List ℕ) →
+    stepOf c bytes buffer .answer ≡ first (λ n. applies n c bytes buffer) (1 ∷ 2 ∷ 3 ∷ 4 ∷ 5 ∷ 6 ∷ 7 ∷ [])
+
+-- a refusal counts 0 bytes, changes no byte and gives the record back
+abbrev pub Refused : Type 0
+Refused =
+    (c : Call) (bytes buffer : List ℕ) (n : ℕ) →
+    stepOf c bytes buffer .answer ≡ n → (n ≡ 0 → ⊥) → stepOf c bytes buffer ≡ refusal n c buffer
+
+-- every record of a run is sound
+abbrev pub Sound : Type 0
+Sound = (ts : List Turn) → sound (run freshCall ts) ≡ true
+
+-- so 1 never comes back in a run
+abbrev pub NeverUnsound : Type 0
+NeverUnsound = (ts : List Turn) (t : Turn) → outcome (run freshCall ts) t .answer ≡ 1 → ⊥
+
+-- Demand 2: what is taken gives the record and the bytes of the rows
+
+abbrev pub Taken : Type 0
+Taken =
+    (c : Call) (t : Turn) (e : Event) →
+    takenBy c t ≡ some e →
+    (read events (t .event) ≡ taken e)
+    × (next c t ≡ rowFor c e .call)
+    × (outcome c t .count ≡ length (bytesOf (writtenBy c t)))
+    × (outcome c t .buffer ≡ sets (t .buffer) 0 (bytesOf (writtenBy c t)))
+
+-- Demand 3, told: what the lower layers were last told is what the history rule reads from the taken events alone, and is the plane of the record
+
+abbrev pub Told : Type 0
+Told = (ts : List Turn) → (told ts ≡ planeByHistory (takenIn freshCall ts)) × (told ts ≡ run freshCall ts .plane)
+
+-- Demand 3, cut: after a taken BREAK, anywhere in any run, the U-plane stays off until a D-CALL RESTORE for the identifier held at the cut is
+-- taken or the call has ended
+
+abbrev pub restoresIn : ℕ → Option Event → Bool
+restoresIn i none = false
+restoresIn i (some (SetupRequest a d q)) = false
+restoresIn i (some SetupResponse) = false
+restoresIn i (some ReleaseRequest) = false
+restoresIn i (some (TxRequest k)) = false
+restoresIn i (some (ModifyRequest d)) = false
+restoresIn i (some (DCallProceeding j)) = false
+restoresIn i (some (DAlert j)) = false
+restoresIn i (some (DConnect j g d o)) = false
+restoresIn i (some (DConnectAcknowledge j g o)) = false
+restoresIn i (some (DSetup j a d)) = false
+restoresIn i (some (DInfo j r o d)) = false
+restoresIn i (some (DTxGranted j g)) = false
+restoresIn i (some (DTxCeased j)) = false
+restoresIn i (some (DTxInterrupt j g)) = false
+restoresIn i (some (DTxWait j)) = false
+restoresIn i (some (DTxContinue j k)) = false
+restoresIn i (some (DCallRestore j g r o)) = eqb i j
+restoresIn i (some (DDisconnect j)) = false
+restoresIn i (some (DRelease j)) = false
+restoresIn i (some ReportSent) = false
+restoresIn i (some ReportFailed) = false
+restoresIn i (some Break) = false
+restoresIn i (some Resume) = false
+restoresIn i (some (Expiry n)) = false
+
+-- a turn that takes a D-CALL RESTORE for an identifier
+unfoldable pub restores : ℕ → Call → Turn → Bool
+restores i c t = restoresIn i (takenBy c t)
+
+-- some turns in which neither such a restoration is taken nor the call ends
+unfoldable pub quiet : ℕ → Call → List Turn → Bool
+quiet i c [] = true
+quiet i c (t ∷ ts) = not (restores i c t) && (not (ends c t) && quiet i (next c t) ts)
+
+abbrev pub Cut : Type 0
+Cut =
+    (ts us : List Turn) (t : Turn) →
+    takenBy (run freshCall ts) t ≡ some Break →
+    quiet (run freshCall ts .id) (next (run freshCall ts) t) us ≡ true →
+    told (ts ++ t ∷ us) ≡ 4
+
+-- Demand 3, restored: the call that a D-CALL RESTORE then restores is the call that was cut, however many breaks came between
+
+abbrev pub Restored : Type 0
+Restored =
+    (ts us : List Turn) (t v : Turn) (i g r o : ℕ) →
+    takenBy (run freshCall ts) t ≡ some Break →
+    quiet (run freshCall ts .id) (next (run freshCall ts) t) us ≡ true →
+    takenBy (run freshCall (ts ++ t ∷ us)) v ≡ some (DCallRestore i g r o) →
+    (i ≡ run freshCall ts .id)
+    × (run freshCall (ts ++ t ∷ us ++ v ∷ []) .id ≡ run freshCall ts .id)
+    × (run freshCall (ts ++ t ∷ us ++ v ∷ []) .address ≡ run freshCall ts .address)
+    × (run freshCall (ts ++ t ∷ us ++ v ∷ []) .mode ≡ run freshCall ts .mode)
+    × (run freshCall (ts ++ t ∷ us ++ v ∷ []) .code ≡ cond (eqb r 1) (cond (eqb o 16) (run freshCall ts .code) o) (run freshCall ts .code))
+    × (runs (run freshCall (ts ++ t ∷ us ++ v ∷ [])) T310 ≡ cond (eqb r 1) true (runs (run freshCall ts) T310))
+
+-- Demand 3, ended: a turn that writes RELEASE confirm, or RELEASE indication 3 or 4, leaves the fresh record
+
+abbrev pub Ended : Type 0
+Ended = (ts : List Turn) (t : Turn) → ends (run freshCall ts) t ≡ true → run freshCall (ts ++ t ∷ []) ≡ freshCall
+
+-- and from any state but IDLE there is no other way to it
+abbrev pub NoOtherEnd : Type 0
+NoOtherEnd =
+    (ts : List Turn) (t : Turn) →
+    isIdle (run freshCall ts) ≡ false → isIdle (run freshCall (ts ++ t ∷ [])) ≡ true → ends (run freshCall ts) t ≡ true
+
+-- In the client's words
+
+-- in IDLE the record has no identifier, no permission and no running timer: it is the fresh record
+abbrev pub IdleIsFresh : Type 0
+IdleIsFresh = (ts : List Turn) → isIdle (run freshCall ts) ≡ true → run freshCall ts ≡ freshCall
+
+-- a set transmits (told 1 or 3) only in CALL-ACTIVE with path up, and with the identifier of the call it is in
+abbrev pub Transmits : Type 0
+Transmits =
+    (ts : List Turn) →
+    (eqb (told ts) 1 || eqb (told ts) 3) ≡ true →
+    (run freshCall ts .state ≡ State.CallActive) × (run freshCall ts .path ≡ Path.Up) × (run freshCall ts .id ≡ 0 → ⊥)

@@ -1,0 +1,61 @@
+-- The plane by history: read from the taken events alone. It looks at no record and at no row.
+use Prim.Native.Nat.{ℕ}
+use mathlib.Core.Bool.{Bool, true, false, cond, _&&_}
+use mathlib.Core.List.{List, [], _∷_}
+use lib.Dec.{eqb}
+use Rattle.records.specs.declared.events.Event.{Event}
+use Rattle.records.specs.declared.events.Event.the-variants.{SetupRequest, SetupResponse, ReleaseRequest, TxRequest, ModifyRequest, DCallProceeding, DAlert, DConnect, DConnectAcknowledge, DSetup, DInfo, DTxGranted, DTxCeased, DTxInterrupt, DTxWait, DTxContinue, DCallRestore, DDisconnect, DRelease, ReportSent, ReportFailed, Break, Resume, Expiry}
+
+-- what the rule remembers: the plane, the mode, and the plane before the last D-TX WAIT
+pub record History : Type 0 where
+  pub plane : ℕ
+  pub mode : ℕ
+  pub before : ℕ
+
+abbrev pub history : ℕ → ℕ → ℕ → History
+history p d b = record { plane = p; mode = d; before = b }
+
+-- at first off
+abbrev pub atFirst : History
+atFirst = history 4 0 4
+
+-- grant rule G: 0 gives plane 1, or 3 in duplex; 3 gives 2; 1 and 2 give the plane that is handed in
+abbrev pub granted : ℕ → ℕ → ℕ → ℕ
+granted g d p = cond (eqb g 0) (cond (eqb d 1) 3 1) (cond (eqb g 3) 2 p)
+
+abbrev pub switched : History → ℕ → History
+switched h p = history p (h .mode) (h .before)
+
+unfoldable pub note : History → Event → History
+note h (SetupRequest a d q) = history (h .plane) d (h .before)
+note h SetupResponse = h
+note h ReleaseRequest = switched h 4
+note h (TxRequest k) = switched h (cond (eqb k 0 && eqb (h .plane) 1) 4 (h .plane))
+note h (ModifyRequest d) = h
+note h (DCallProceeding i) = h
+note h (DAlert i) = h
+note h (DConnect i g d o) = history (granted g d 4) d (h .before)
+note h (DConnectAcknowledge i g o) = switched h (granted g (h .mode) 4)
+note h (DSetup i a d) = history (h .plane) d (h .before)
+note h (DInfo i r o d) = history (cond (eqb d (h .mode)) (h .plane) 4) d (h .before)
+note h (DTxGranted i g) = switched h (granted g (h .mode) (h .plane))
+note h (DTxCeased i) = switched h 4
+note h (DTxInterrupt i g) = switched h (cond (eqb g 3) 2 4)
+note h (DTxWait i) = history 4 (h .mode) (h .plane)
+note h (DTxContinue i k) = switched h (cond (eqb k 1) (h .before) 4)
+note h (DCallRestore i g r o) = switched h (granted g (h .mode) (h .plane))
+note h (DDisconnect i) = switched h 4
+note h (DRelease i) = switched h 4
+note h ReportSent = h
+note h ReportFailed = h
+note h Break = switched h 4
+note h Resume = h
+note h (Expiry n) = switched h 4
+
+unfoldable pub reads : History → List Event → History
+reads h [] = h
+reads h (e ∷ es) = reads (note h e) es
+
+-- the plane that the rule reads from some taken events
+unfoldable pub planeByHistory : List Event → ℕ
+planeByHistory es = reads atFirst es .plane

@@ -1,0 +1,109 @@
+-- The step: the answers in their order, and what each gives back.
+use Prim.Native.Nat.{ℕ}
+use mathlib.Core.Bool.{Bool, true, false, cond, not, _&&_, _||_}
+use mathlib.Core.List.{List, [], _∷_}
+use mathlib.Core.Option.{Option, none, some}
+use lib.Dec.{leb, eqb}
+use lib.ListN.{length}
+use lib.Seq.{sets}
+use Rattle.records.specs.declared.events.Event.{Event}
+use Rattle.records.specs.declared.events.Event.the-variants.{SetupRequest, SetupResponse, ReleaseRequest, TxRequest, ModifyRequest, DCallProceeding, DAlert, DConnect, DConnectAcknowledge, DSetup, DInfo, DTxGranted, DTxCeased, DTxInterrupt, DTxWait, DTxContinue, DCallRestore, DDisconnect, DRelease, ReportSent, ReportFailed, Break, Resume, Expiry}
+use Rattle.records.specs.declared.events.EventRead.{EventRead}
+use Rattle.records.specs.Tables.{Read, taken, refused, read}
+use Rattle.records.specs.Events.{events}
+use Rattle.callcontrol.specs.declared.call.Call.{Call}
+use Rattle.callcontrol.specs.declared.draft.Draft.{Draft}
+use Rattle.callcontrol.specs.declared.step.Answer.{Answer}
+use Rattle.callcontrol.specs.declared.step.Named.{Named}
+use Rattle.callcontrol.specs.declared.step.Stepped.{Stepped}
+use Rattle.callcontrol.specs.Call.{sound, isIdle}
+use Rattle.callcontrol.specs.Rows.{rowFor}
+use Rattle.callcontrol.specs.Orders.{orders, bytesOf}
+
+-- what comes back: the answer's number, the record, the count of bytes written, and the lent buffer then
+pub record Outcome : Type 0 where
+  pub answer : ℕ
+  pub call : Call
+  pub count : ℕ
+  pub buffer : List ℕ
+
+-- a refusal counts 0 bytes, changes no byte and returns the record as given
+abbrev pub refusal : ℕ → Call → List ℕ → Outcome
+refusal n c buffer = record { answer = n; call = c; count = 0; buffer = buffer }
+
+-- the identifier of a network event but D-SETUP
+abbrev pub namedIn : Event → Named
+namedIn (SetupRequest a d q) = Named.NoCall
+namedIn SetupResponse = Named.NoCall
+namedIn ReleaseRequest = Named.NoCall
+namedIn (TxRequest k) = Named.NoCall
+namedIn (ModifyRequest d) = Named.NoCall
+namedIn (DCallProceeding i) = Named.Id i
+namedIn (DAlert i) = Named.Id i
+namedIn (DConnect i g d o) = Named.Id i
+namedIn (DConnectAcknowledge i g o) = Named.Id i
+namedIn (DSetup i a d) = Named.NoCall
+namedIn (DInfo i r o d) = Named.Id i
+namedIn (DTxGranted i g) = Named.Id i
+namedIn (DTxCeased i) = Named.Id i
+namedIn (DTxInterrupt i g) = Named.Id i
+namedIn (DTxWait i) = Named.Id i
+namedIn (DTxContinue i k) = Named.Id i
+namedIn (DCallRestore i g r o) = Named.Id i
+namedIn (DDisconnect i) = Named.Id i
+namedIn (DRelease i) = Named.Id i
+namedIn ReportSent = Named.NoCall
+namedIn ReportFailed = Named.NoCall
+namedIn Break = Named.NoCall
+namedIn Resume = Named.NoCall
+namedIn (Expiry n) = Named.NoCall
+
+-- an identifier that differs from the held one; if 0 is held outside IDLE, every one agrees
+abbrev pub differs : Call → Named → Bool
+differs c Named.NoCall = false
+differs c (Named.Id i) = not (eqb i (c .id)) && (not (eqb (c .id) 0) || isIdle c)
+
+unfoldable pub otherCall : Call → Event → Bool
+otherCall c e = differs c (namedIn e)
+
+-- a row's messages into the lent buffer, where they fit
+unfoldable pub carried : Call → Draft → List ℕ → Outcome
+carried c d buffer =
+    cond (leb (length (bytesOf (orders d))) (length buffer))
+    (record { answer = 0; call = d .call; count = length (bytesOf (orders d)); buffer = sets buffer 0 (bytesOf (orders d)) })
+    (refusal 7 c buffer)
+
+-- an event that was read: 5, 6 and 7
+unfoldable pub decided : Call → Event → List ℕ → Outcome
+decided c e buffer =
+    cond (otherCall c e) (refusal 5 c buffer)
+    (cond (rowFor c e .taken) (carried c (rowFor c e) buffer) (refusal 6 c buffer))
+
+abbrev pub whenRead : Read Event → Call → List ℕ → Outcome
+whenRead (taken e) c buffer = decided c e buffer
+whenRead (refused n) c buffer = refusal n c buffer
+
+-- the step: the lowest number that applies, and none otherwise
+unfoldable pub stepOf : Call → List ℕ → List ℕ → Outcome
+stepOf c bytes buffer = cond (sound c) (whenRead (read events bytes) c buffer) (refusal 1 c buffer)
+
+-- the code's answer as the paper's number
+abbrev pub answerNumber : Answer → ℕ
+answerNumber Answer.Taken = 0
+answerNumber Answer.NotSound = 1
+answerNumber Answer.BadLength = 2
+answerNumber Answer.UnknownKind = 3
+answerNumber Answer.BadBody = 4
+answerNumber Answer.OtherCall = 5
+answerNumber Answer.NoRow = 6
+answerNumber Answer.NoRoom = 7
+
+abbrev pub asOutcome : Stepped → List ℕ → Outcome
+asOutcome r buffer = record { answer = answerNumber (r .answer); call = r .call; count = r .count; buffer = buffer }
+
+-- the code's answer where no event was read
+abbrev pub unreadAs : EventRead → Answer
+unreadAs (EventRead.Is e) = Answer.Taken
+unreadAs EventRead.BadLength = Answer.BadLength
+unreadAs EventRead.UnknownKind = Answer.UnknownKind
+unreadAs EventRead.BadBody = Answer.BadBody

@@ -1,0 +1,129 @@
+// The step: an event comes in; the next record and the messages go out, or a refusal that changes nothing.
+ghost use mathlib.Core.Path.{_≡_};
+ghost use Rattle.callcontrol.specs.Step.{namedIn, differs, otherCall, carried, decided, stepOf, asOutcome, unreadAs};
+use crate::call::Call;
+use crate::call::State;
+use crate::draft::Draft;
+use crate::orders::lay_orders;
+use crate::orders::orders_size;
+use crate::rows::row_for;
+use records::events::Event;
+use records::events::EventRead;
+use records::events::read_event;
+
+// What comes back.
+pub enum Answer {
+    // 0: taken.
+    Taken,
+    // 1: the record is not sound.
+    NotSound,
+    // 2: under 4 bytes handed in, or the length field differs from the bytes handed in.
+    BadLength,
+    // 3: the kind is no event kind.
+    UnknownKind,
+    // 4: body size or a field out of range.
+    BadBody,
+    // 5: a network event of another call.
+    OtherCall,
+    // 6: no row for this state.
+    NoRow,
+    // 7: the messages are longer than the lent buffer.
+    NoRoom,
+}
+
+// The answer, the count of bytes written and the next record.
+pub struct Stepped {
+    pub answer: Answer,
+    pub count: usize,
+    pub call: Call,
+}
+
+// The identifier that an event names a call by.
+pub enum Named {
+    Id(u16),
+    NoCall,
+}
+
+// The identifier of a network event but D-SETUP.
+fn named_in(event: Event) -> Named
+    ensures { λ r. ⌜ r ≡ namedIn event ⌝ }
+{
+    match event {
+        Event::DCallProceeding { id } => Named::Id(id),
+        Event::DAlert { id } => Named::Id(id),
+        Event::DConnect { id, grant: _, mode: _, code: _ } => Named::Id(id),
+        Event::DConnectAcknowledge { id, grant: _, code: _ } => Named::Id(id),
+        Event::DInfo { id, reset: _, code: _, mode: _ } => Named::Id(id),
+        Event::DTxGranted { id, grant: _ } => Named::Id(id),
+        Event::DTxCeased { id } => Named::Id(id),
+        Event::DTxInterrupt { id, grant: _ } => Named::Id(id),
+        Event::DTxWait { id } => Named::Id(id),
+        Event::DTxContinue { id, go: _ } => Named::Id(id),
+        Event::DCallRestore { id, grant: _, reset: _, code: _ } => Named::Id(id),
+        Event::DDisconnect { id } => Named::Id(id),
+        Event::DRelease { id } => Named::Id(id),
+        _ => Named::NoCall,
+    }
+}
+
+// An identifier that differs from the held one; if 0 is held outside IDLE, every one agrees.
+fn other_call(call: Call, event: Event) -> bool
+    ensures { λ r. ⌜ r ≡ otherCall call event ⌝ }
+{
+    let Named::Id(id) = named_in(event) else {
+        return false;
+    };
+    (id != call.id) & ((call.id != 0) | call.is_idle())
+}
+
+// The answer where no event was read.
+fn unread(read: EventRead) -> Answer
+    ensures { λ r. ⌜ r ≡ unreadAs read ⌝ }
+{
+    match read {
+        EventRead::Is(_) => Answer::Taken,
+        EventRead::BadLength => Answer::BadLength,
+        EventRead::UnknownKind => Answer::UnknownKind,
+        EventRead::BadBody => Answer::BadBody,
+    }
+}
+
+// A row's messages into the lent buffer: counted first, and stored only where they fit.
+fn carry(call: Call, draft: Draft, buffer: &mut [u8]) -> Stepped
+    ensures { λ r. ⌜ asOutcome r (now (buffer .exit)) ≡ carried call draft (now (buffer .entry)) ⌝ }
+{
+    let size = orders_size(draft);
+    if buffer.len() < size {
+        return Stepped { answer: Answer::NoRoom, count: 0, call };
+    }
+    lay_orders(draft, buffer);
+    let next = draft.call;
+    Stepped { answer: Answer::Taken, count: size, call: next }
+}
+
+// An event that was read.
+fn decide(call: Call, event: Event, buffer: &mut [u8]) -> Stepped
+    ensures { λ r. ⌜ asOutcome r (now (buffer .exit)) ≡ decided call event (now (buffer .entry)) ⌝ }
+{
+    if other_call(call, event) {
+        return Stepped { answer: Answer::OtherCall, count: 0, call };
+    }
+    let draft = row_for(call, event);
+    if draft.taken {
+        return carry(call, draft, buffer);
+    }
+    Stepped { answer: Answer::NoRow, count: 0, call }
+}
+
+pub fn step(call: Call, event: &[u8], buffer: &mut [u8]) -> Stepped
+    ensures { λ r. ⌜ asOutcome r (now (buffer .exit)) ≡ stepOf call (now (event .entry)) (now (buffer .entry)) ⌝ }
+{
+    if !call.sound() {
+        return Stepped { answer: Answer::NotSound, count: 0, call };
+    }
+    let read = read_event(event);
+    let EventRead::Is(e) = read else {
+        return Stepped { answer: unread(read), count: 0, call };
+    };
+    decide(call, e, buffer)
+}
