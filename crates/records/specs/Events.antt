@@ -122,14 +122,14 @@ eventApart (Event.Expiry timer) = (expiry, (timer, tt))
 
 abbrev pub events : Table
 events =
-    record
-    { Kind = EventKind
-    ; Value = Event
-    ; kinds = eventKinds
-    ; rowOf = eventRow
-    ; valueOf = eventOf
-    ; apart = eventApart
-    ; agrees = λ e. true
+    record {
+      Kind = EventKind;
+      Value = Event;
+      kinds = eventKinds;
+      rowOf = eventRow;
+      valueOf = eventOf;
+      apart = eventApart;
+      agrees = λ e. true;
     }
 
 -- the paper's number and value for each case of the code's answer

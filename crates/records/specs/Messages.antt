@@ -137,14 +137,14 @@ messageAgrees (Message.ModifyIndication mode) = true
 
 abbrev pub messages : Table
 messages =
-    record
-    { Kind = MessageKind
-    ; Value = Message
-    ; kinds = messageKinds
-    ; rowOf = messageRow
-    ; valueOf = messageOf
-    ; apart = messageApart
-    ; agrees = messageAgrees
+    record {
+      Kind = MessageKind;
+      Value = Message;
+      kinds = messageKinds;
+      rowOf = messageRow;
+      valueOf = messageOf;
+      apart = messageApart;
+      agrees = messageAgrees;
     }
 
 -- the paper's number and value for each case of the code's answer

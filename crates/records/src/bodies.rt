@@ -115,14 +115,62 @@ fn fields_in(s: &[u8], shape: Shape) -> Fields
     ensures { λ r. ⌜ valuesOf shape r ≡ numbersAt (lettersOf shape) (now (s .entry)) 4 ⌝ }
 {
     match shape {
-        Shape::Nothing => Fields { word: 0, long: 0, first: 0, second: 0, third: 0 },
-        Shape::Byte(_) => Fields { word: 0, long: 0, first: s[4], second: 0, third: 0 },
-        Shape::Word(_) => Fields { word: word_at(s, 4), long: 0, first: 0, second: 0, third: 0 },
-        Shape::WordByte(_, _) => Fields { word: word_at(s, 4), long: 0, first: s[6], second: 0, third: 0 },
-        Shape::WordByteByte(_, _, _) => Fields { word: word_at(s, 4), long: 0, first: s[6], second: s[7], third: 0 },
-        Shape::WordByteByteByte(_, _, _, _) => Fields { word: word_at(s, 4), long: 0, first: s[6], second: s[7], third: s[8] },
-        Shape::WordLongByte(_, _, _) => Fields { word: word_at(s, 4), long: long_at(s, 6), first: s[10], second: 0, third: 0 },
-        Shape::LongByteByte(_, _, _) => Fields { word: 0, long: long_at(s, 4), first: s[8], second: s[9], third: 0 },
+        Shape::Nothing => Fields {
+            word: 0,
+            long: 0,
+            first: 0,
+            second: 0,
+            third: 0,
+        },
+        Shape::Byte(_) => Fields {
+            word: 0,
+            long: 0,
+            first: s[4],
+            second: 0,
+            third: 0,
+        },
+        Shape::Word(_) => Fields {
+            word: word_at(s, 4),
+            long: 0,
+            first: 0,
+            second: 0,
+            third: 0,
+        },
+        Shape::WordByte(_, _) => Fields {
+            word: word_at(s, 4),
+            long: 0,
+            first: s[6],
+            second: 0,
+            third: 0,
+        },
+        Shape::WordByteByte(_, _, _) => Fields {
+            word: word_at(s, 4),
+            long: 0,
+            first: s[6],
+            second: s[7],
+            third: 0,
+        },
+        Shape::WordByteByteByte(_, _, _, _) => Fields {
+            word: word_at(s, 4),
+            long: 0,
+            first: s[6],
+            second: s[7],
+            third: s[8],
+        },
+        Shape::WordLongByte(_, _, _) => Fields {
+            word: word_at(s, 4),
+            long: long_at(s, 6),
+            first: s[10],
+            second: 0,
+            third: 0,
+        },
+        Shape::LongByteByte(_, _, _) => Fields {
+            word: 0,
+            long: long_at(s, 4),
+            first: s[8],
+            second: s[9],
+            third: 0,
+        },
     }
 }
 
@@ -135,10 +183,14 @@ fn fields_fit(shape: Shape, f: Fields) -> bool
         Shape::Byte(b) => byte_fits(b, f.first),
         Shape::Word(w) => word_fits(w, f.word),
         Shape::WordByte(w, b) => word_fits(w, f.word) & byte_fits(b, f.first),
-        Shape::WordByteByte(w, b, c) => word_fits(w, f.word) & (byte_fits(b, f.first) & byte_fits(c, f.second)),
-        Shape::WordByteByteByte(w, b, c, d) => word_fits(w, f.word) & (byte_fits(b, f.first) & (byte_fits(c, f.second) & byte_fits(d, f.third))),
-        Shape::WordLongByte(w, a, b) => word_fits(w, f.word) & (long_fits(a, f.long) & byte_fits(b, f.first)),
-        Shape::LongByteByte(a, b, c) => long_fits(a, f.long) & (byte_fits(b, f.first) & byte_fits(c, f.second)),
+        Shape::WordByteByte(w, b, c) => word_fits(w, f.word)
+            & (byte_fits(b, f.first) & byte_fits(c, f.second)),
+        Shape::WordByteByteByte(w, b, c, d) => word_fits(w, f.word)
+            & (byte_fits(b, f.first) & (byte_fits(c, f.second) & byte_fits(d, f.third))),
+        Shape::WordLongByte(w, a, b) => word_fits(w, f.word)
+            & (long_fits(a, f.long) & byte_fits(b, f.first)),
+        Shape::LongByteByte(a, b, c) => long_fits(a, f.long)
+            & (byte_fits(b, f.first) & byte_fits(c, f.second)),
     }
 }
 
