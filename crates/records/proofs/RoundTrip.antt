@@ -57,7 +57,7 @@ timer v =
     (either _ v 308
     (either _ v 306
     (either _ v 303
-    (either _ v 302 (λ h. omega (arith, eqb-true v 301 h)) (lit< tt))
+    (either _ v 302 (λ (h : eqb v 301 ≡ true). omega (arith, eqb-true v 301 h)) (lit< tt))
     (lit< tt))
     (lit< tt))
     (lit< tt))

@@ -240,8 +240,10 @@ fn put_word(buffer: &mut [u8], at: usize, v: u16) -> usize
     requires { ⌜ at + 2 ≤ length (now buffer) ⌝ }
     ensures { λ r. ⌜ Stored (now (buffer .entry)) at (bytes 2 v) r (now (buffer .exit)) ⌝ }
 {
-    buffer[at] = (v % 256) as u8;
-    buffer[at + 1] = (v / 256 % 256) as u8;
+    let low = (v % 256) as u8;
+    let high = (v / 256 % 256) as u8;
+    buffer[at] = low;
+    buffer[at + 1] = high;
     at + 2
 }
 
