@@ -6,7 +6,7 @@ ghost use Prim.Native.Nat.{ℕ, _+_, _<_, _≤_};
 ghost use lib.ListN.{length};
 ghost use Rattle.records.specs.Bytes.{number, bytes};
 ghost use Rattle.records.specs.Letters.{Letter};
-ghost use Rattle.records.specs.Bodies.{Wrote, Stored, size, lettersOf, valuesOf, kindIn, bodyOf, numbersAt, allFit, bodyBytes, partsOf, flatBytes, flatFits, flatSize, laid, laidNext, written, asFrame, asBody, asWrote};
+ghost use Rattle.records.specs.Bodies.{Wrote, Stored, size, lettersOf, valuesOf, kindIn, bodyOf, numbersAt, allFit, bodyBytes, partsOf, flatBytes, flatFits, flatSize, laid, laidNext, written, fieldsOf, asFrame, bodyAs, asWrote};
 use crate::letters::Byte;
 use crate::letters::Long;
 use crate::letters::Word;
@@ -26,7 +26,7 @@ pub enum Shape {
     LongByteByte(Long, Byte, Byte),
 }
 
-// The values of a body: the u16, the u32 and the bytes in their order. What a shape lacks means nothing.
+// The values of a body: the u16, the u32 and the bytes in their order. What a shape lacks is 0 when read, and not written.
 pub struct Fields {
     pub word: u16,
     pub long: u32,
@@ -112,7 +112,7 @@ fn size_of(shape: Shape) -> u8
 // The numbers of a body, in a record of the shape's size.
 fn fields_in(s: &[u8], shape: Shape) -> Fields
     requires { ⌜ length (now s) ≡ 4 + size (lettersOf shape) ⌝ }
-    ensures { λ r. ⌜ valuesOf shape r ≡ numbersAt (lettersOf shape) (now (s .entry)) 4 ⌝ }
+    ensures { λ r. ⌜ r ≡ fieldsOf shape (numbersAt (lettersOf shape) (now (s .entry)) 4) ⌝ }
 {
     match shape {
         Shape::Nothing => Fields {
@@ -196,7 +196,7 @@ fn fields_fit(shape: Shape, f: Fields) -> bool
 
 // What the body of a record holds, where it has the shape's size and every value fits.
 pub fn body_in(s: &[u8], shape: Shape) -> Body
-    ensures { λ r. ⌜ asBody shape r ≡ bodyOf (lettersOf shape) (now (s .entry)) ⌝ }
+    ensures { λ r. ⌜ r ≡ bodyAs shape (bodyOf (lettersOf shape) (now (s .entry))) ⌝ }
 {
     if s.len() != 4 + size_of(shape) as usize {
         return Body::Bad;
