@@ -1,15 +1,18 @@
 -- The promises leave no choice: two results that a function's promise allows are equal, and so are the buffers that it leaves.
 use Prim.Native.Nat.{ℕ}
 use mathlib.Core.Path.{_≡_, refl, sym, _∙_, ap}
-use mathlib.Core.Bool.{cond}
+use mathlib.Core.Bool.{cond, true}
 use mathlib.Core.List.{List}
+use mathlib.Core.Option.{Option, none, some}
 use lib.Dec.{eqb}
+use Rattle.records.specs.declared.bodies.Frame.{Frame}
+use Rattle.records.specs.declared.bodies.Parts.{Parts}
 use Rattle.records.specs.declared.bodies.Written.{Written}
 use Rattle.records.specs.declared.events.Event.{Event}
 use Rattle.records.specs.declared.events.EventRead.{EventRead}
 use Rattle.records.specs.declared.messages.Message.{Message}
 use Rattle.records.specs.declared.messages.MessageRead.{MessageRead}
-use Rattle.records.specs.Bodies.{Wrote, wrote, notWritten, asWrote, laid, laidNext}
+use Rattle.records.specs.Bodies.{Wrote, wrote, notWritten, asFrame, asWrote, kindIn, written, flatBytes, partsOf, laid, laidNext}
 use Rattle.records.specs.Tables.{Read, taken, refused, read, write}
 use Rattle.records.specs.Events.{events, asEventRead}
 use Rattle.records.specs.Messages.{messages, asMessageRead, messageBytes, messageSize}
@@ -40,6 +43,15 @@ message-same (MessageRead.Is m) = refl
 message-same MessageRead.BadLength = refl
 message-same MessageRead.UnknownKind = refl
 message-same MessageRead.BadBody = refl
+
+frame-back : Option ℕ → Frame
+frame-back (some k) = Frame.Kind k
+frame-back none = Frame.Bad
+
+frame-same : (r : Frame) → frame-back (asFrame r) ≡ r
+unfolding frame-back
+frame-same (Frame.Kind k) = refl
+frame-same Frame.Bad = refl
 
 wrote-back : Wrote → Written
 wrote-back (wrote n) = Written.Count n
@@ -77,3 +89,9 @@ lay-message m buffer at w₁ w₂ e₁ e₂ = e₁ ∙ sym e₂
 
 pub message-size : (m : Message) (r₁ r₂ : ℕ) → r₁ ≡ messageSize m → r₂ ≡ messageSize m → r₁ ≡ r₂
 message-size m r₁ r₂ e₁ e₂ = e₁ ∙ sym e₂
+
+pub kind-in : (s : List ℕ) (r₁ r₂ : Frame) → asFrame r₁ ≡ kindIn s → asFrame r₂ ≡ kindIn s → r₁ ≡ r₂
+kind-in s = turned asFrame frame-back frame-same (kindIn s)
+
+pub write-parts : (p : Parts) (buffer : List ℕ) (w₁ w₂ : Written × List ℕ) → wroteInto w₁ ≡ written true (flatBytes (partsOf p)) buffer → wroteInto w₂ ≡ written true (flatBytes (partsOf p)) buffer → w₁ ≡ w₂
+write-parts p buffer = into-determined (written true (flatBytes (partsOf p)) buffer)

@@ -11,7 +11,10 @@ use lib.ListN.{length, getD, set, length-append}
 use lib.Seq.{sets}
 use Rattle.records.specs.Bytes.{number, bytes}
 use Rattle.records.specs.Letters.{Letter, width, fits}
-use Rattle.records.specs.Bodies.{Values, Flat, Stored, size, andThen, valueAt, valuesAt, numbersAt, allFit, bodyBytes, flatBytes, flatSize}
+use Rattle.records.specs.declared.bodies.Shape.{Shape}
+use Rattle.records.specs.declared.bodies.Fields.{Fields}
+use Rattle.records.specs.declared.bodies.Body.{Body}
+use Rattle.records.specs.Bodies.{Values, Flat, Stored, size, andThen, valueAt, valuesAt, numbersAt, allFit, bodyBytes, flatBytes, flatSize, lettersOf, valuesOf, fieldsOf, bodyAs}
 
 pub number-one : (s : List ℕ) (at : ℕ) → number 1 s at ≡ getD s at 0
 unfolding number
@@ -58,3 +61,32 @@ values-numbers [] s at = refl
 values-numbers (l ∷ ls) s at =
     simp (values-numbers ls s (at + width l))
     (both (fits l (number (width l) s at)) (allFit ls (numbersAt ls s (at + width l))) _ _)
+
+-- the fields that hold a shape's values hold those values
+pub values-fields : (shape : Shape) (vs : Values (lettersOf shape)) → valuesOf shape (fieldsOf shape vs) ≡ vs
+values-fields Shape.Nothing vs = refl
+values-fields (Shape.Byte b) vs = refl
+values-fields (Shape.Word w) vs = refl
+values-fields (Shape.WordByte w b) vs = refl
+values-fields (Shape.WordByteByte w b c) vs = refl
+values-fields (Shape.WordByteByteByte w b c d) vs = refl
+values-fields (Shape.WordLongByte w a b) vs = refl
+values-fields (Shape.LongByteByte a b c) vs = refl
+
+asBody : (shape : Shape) → Body → Option (Values (lettersOf shape))
+asBody shape (Body.Is f) = some (valuesOf shape f)
+asBody shape Body.Bad = none
+
+held : (shape : Shape) (o : Option (Values (lettersOf shape))) → asBody shape (bodyAs shape o) ≡ o
+unfolding asBody bodyAs
+held shape none = refl
+held shape (some vs) = ap some (values-fields shape vs)
+
+-- what a body that was found or refused says of the bytes
+pub no-body : (shape : Shape) {o : Option (Values (lettersOf shape))} → Body.Bad ≡ bodyAs shape o → none ≡ o
+unfolding asBody
+no-body shape {o} e = ap (asBody shape) e ∙ held shape o
+
+pub some-body : (shape : Shape) {f : Fields} {o : Option (Values (lettersOf shape))} → Body.Is f ≡ bodyAs shape o → some (valuesOf shape f) ≡ o
+unfolding asBody
+some-body shape {f} {o} e = ap (asBody shape) e ∙ held shape o

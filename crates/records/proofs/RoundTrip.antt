@@ -57,7 +57,7 @@ timer v =
     (either _ v 308
     (either _ v 306
     (either _ v 303
-    (either _ v 302 (λ h. omega (arith, eqb-true v 301 h)) (lit< tt))
+    (either _ v 302 (λ (h : eqb v 301 ≡ true). omega (arith, eqb-true v 301 h)) (lit< tt))
     (lit< tt))
     (lit< tt))
     (lit< tt))
@@ -231,11 +231,11 @@ module _ (t : Table) (lawful : Lawful t) where
   unfolding flatBytes flatSize bytes
   bytes-hold k vs fit =
       let measured : length (flatBytes (flatOf (k, vs))) ≡ 4 + size (t .rowOf k .letters) = omega (arith, length-body (t .rowOf k .letters) vs) in
-      record
-      { measured = measured
-      ; said = number-bytes 2 (4 + size (t .rowOf k .letters)) 0 _ (bytes 2 (t .rowOf k .number) ++ bodyBytes (t .rowOf k .letters) vs) (narrow k .1) refl ∙ sym measured
-      ; kind = number-bytes 2 (t .rowOf k .number) 2 _ (bodyBytes (t .rowOf k .letters) vs) (narrow k .0) refl
-      ; body = values-body (t .rowOf k .letters) vs _ 4 fit refl
+      record {
+        measured = measured;
+        said = number-bytes 2 (4 + size (t .rowOf k .letters)) 0 _ (bytes 2 (t .rowOf k .number) ++ bodyBytes (t .rowOf k .letters) vs) (narrow k .1) refl ∙ sym measured;
+        kind = number-bytes 2 (t .rowOf k .number) 2 _ (bodyBytes (t .rowOf k .letters) vs) (narrow k .0) refl;
+        body = values-body (t .rowOf k .letters) vs _ 4 fit refl;
       }
 
   -- and nothing else is

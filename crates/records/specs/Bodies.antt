@@ -1,6 +1,6 @@
 -- A record without its meaning: a kind, and a body of letters with their values, from bytes and into bytes.
-use Prim.Native.Nat.{ℕ, suc, _+_}
-use mathlib.Core.Bool.{Bool, true, false, cond, _&&_}
+use Prim.Native.Nat.{ℕ, _+_}
+use mathlib.Core.Bool.{Bool, true, cond, _&&_}
 use mathlib.Core.List.{List, [], _∷_, _++_}
 use mathlib.Core.Option.{Option, none, some}
 use mathlib.Core.Path.{_≡_}
@@ -114,6 +114,9 @@ lettersOf (Shape.WordByteByteByte w b c d) = word w ∷ byte b ∷ byte c ∷ by
 lettersOf (Shape.WordLongByte w a b) = word w ∷ long a ∷ byte b ∷ []
 lettersOf (Shape.LongByteByte a b c) = long a ∷ byte b ∷ byte c ∷ []
 
+abbrev pub fields : ℕ → ℕ → ℕ → ℕ → ℕ → Fields
+fields two four first second third = record { word = two; long = four; first = first; second = second; third = third }
+
 abbrev pub valuesOf : (shape : Shape) → Fields → Values (lettersOf shape)
 valuesOf Shape.Nothing f = tt
 valuesOf (Shape.Byte b) f = (f .first, tt)
@@ -124,6 +127,17 @@ valuesOf (Shape.WordByteByteByte w b c d) f = (f .word, (f .first, (f .second, (
 valuesOf (Shape.WordLongByte w a b) f = (f .word, (f .long, (f .first, tt)))
 valuesOf (Shape.LongByteByte a b c) f = (f .long, (f .first, (f .second, tt)))
 
+-- the fields that hold a shape's values; what the shape lacks is 0
+abbrev pub fieldsOf : (shape : Shape) → Values (lettersOf shape) → Fields
+fieldsOf Shape.Nothing v = fields 0 0 0 0 0
+fieldsOf (Shape.Byte b) v = fields 0 0 (v .0) 0 0
+fieldsOf (Shape.Word w) v = fields (v .0) 0 0 0 0
+fieldsOf (Shape.WordByte w b) v = fields (v .0) 0 (v .1 .0) 0 0
+fieldsOf (Shape.WordByteByte w b c) v = fields (v .0) 0 (v .1 .0) (v .1 .1 .0) 0
+fieldsOf (Shape.WordByteByteByte w b c d) v = fields (v .0) 0 (v .1 .0) (v .1 .1 .0) (v .1 .1 .1 .0)
+fieldsOf (Shape.WordLongByte w a b) v = fields (v .0) (v .1 .0) (v .1 .1 .0) 0 0
+fieldsOf (Shape.LongByteByte a b c) v = fields 0 (v .0) (v .1 .0) (v .1 .1 .0) 0
+
 abbrev pub partsOf : Parts → Flat
 partsOf p = record { kind = p .kind; letters = lettersOf (p .shape); values = valuesOf (p .shape) (p .fields) }
 
@@ -131,9 +145,9 @@ abbrev pub asFrame : Frame → Option ℕ
 asFrame (Frame.Kind k) = some k
 asFrame Frame.Bad = none
 
-abbrev pub asBody : (shape : Shape) → Body → Option (Values (lettersOf shape))
-asBody shape (Body.Is f) = some (valuesOf shape f)
-asBody shape Body.Bad = none
+unfoldable pub bodyAs : (shape : Shape) → Option (Values (lettersOf shape)) → Body
+bodyAs shape none = Body.Bad
+bodyAs shape (some vs) = Body.Is (fieldsOf shape vs)
 
 abbrev pub asWrote : Written → Wrote
 asWrote (Written.Count n) = wrote n

@@ -1,8 +1,6 @@
 -- The paper's table of events, and what its lines stand for.
-use Prim.Native.Nat.{ℕ}
-use mathlib.Core.Bool.{Bool, true, false, _||_}
+use mathlib.Core.Bool.{true}
 use mathlib.Core.List.{List, [], _∷_}
-use lib.Dec.{eqb}
 use Rattle.records.specs.Letters.{a₁, d, q, k, i, g, o, a, r, o₁₆, i₀, n}
 use Rattle.records.specs.declared.events.Event.{Event}
 use Rattle.records.specs.declared.events.EventRead.{EventRead}
@@ -122,14 +120,14 @@ eventApart (Event.Expiry timer) = (expiry, (timer, tt))
 
 abbrev pub events : Table
 events =
-    record
-    { Kind = EventKind
-    ; Value = Event
-    ; kinds = eventKinds
-    ; rowOf = eventRow
-    ; valueOf = eventOf
-    ; apart = eventApart
-    ; agrees = λ e. true
+    record {
+      Kind = EventKind;
+      Value = Event;
+      kinds = eventKinds;
+      rowOf = eventRow;
+      valueOf = eventOf;
+      apart = eventApart;
+      agrees = λ e. true;
     }
 
 -- the paper's number and value for each case of the code's answer

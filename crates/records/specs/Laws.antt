@@ -1,12 +1,12 @@
 -- What holds of the tables, and of what is read and written by them. The proofs are in proofs/Tables and proofs/RoundTrip.
 use Prim.Native.Nat.{ℕ, _+_, _<_}
 use mathlib.Core.Path.{_≡_}
-use mathlib.Core.Bool.{Bool, true, false, _&&_, not}
-use mathlib.Core.List.{List, [], _∷_, _++_, map}
+use mathlib.Core.Bool.{Bool, true, _&&_, not}
+use mathlib.Core.List.{List, [], _∷_, map}
 use mathlib.Core.Option.{some}
 use lib.Dec.{eqb, ltb}
 use lib.ListN.{getD, take}
-use Rattle.records.specs.Bodies.{Values, Wrote, wrote, size, flatBytes}
+use Rattle.records.specs.Bodies.{Values, wrote, size, flatBytes}
 use Rattle.records.specs.Tables.{Table, taken, find, read, flat, fine, write}
 
 -- no number stands twice in a list

@@ -1,6 +1,6 @@
 -- The paper's table of messages, and what its lines stand for.
 use Prim.Native.Nat.{ℕ}
-use mathlib.Core.Bool.{Bool, true, false, _||_}
+use mathlib.Core.Bool.{Bool, true, _||_}
 use mathlib.Core.List.{List, [], _∷_}
 use lib.Dec.{eqb}
 use Rattle.records.specs.Letters.{a₁, d, q, i, i₀, c, a, n, o, p, g, x}
@@ -137,14 +137,14 @@ messageAgrees (Message.ModifyIndication mode) = true
 
 abbrev pub messages : Table
 messages =
-    record
-    { Kind = MessageKind
-    ; Value = Message
-    ; kinds = messageKinds
-    ; rowOf = messageRow
-    ; valueOf = messageOf
-    ; apart = messageApart
-    ; agrees = messageAgrees
+    record {
+      Kind = MessageKind;
+      Value = Message;
+      kinds = messageKinds;
+      rowOf = messageRow;
+      valueOf = messageOf;
+      apart = messageApart;
+      agrees = messageAgrees;
     }
 
 -- the paper's number and value for each case of the code's answer

@@ -6,7 +6,7 @@ ghost use Prim.Native.Nat.{ℕ, _+_, _<_, _≤_};
 ghost use lib.ListN.{length};
 ghost use Rattle.records.specs.Bytes.{number, bytes};
 ghost use Rattle.records.specs.Letters.{Letter};
-ghost use Rattle.records.specs.Bodies.{Wrote, Stored, size, lettersOf, valuesOf, kindIn, bodyOf, numbersAt, allFit, bodyBytes, partsOf, flatBytes, flatFits, flatSize, laid, laidNext, written, asFrame, asBody, asWrote};
+ghost use Rattle.records.specs.Bodies.{Wrote, Stored, size, lettersOf, valuesOf, kindIn, bodyOf, numbersAt, allFit, bodyBytes, partsOf, flatBytes, flatFits, flatSize, laid, laidNext, written, fieldsOf, asFrame, bodyAs, asWrote};
 use crate::letters::Byte;
 use crate::letters::Long;
 use crate::letters::Word;
@@ -26,7 +26,7 @@ pub enum Shape {
     LongByteByte(Long, Byte, Byte),
 }
 
-// The values of a body: the u16, the u32 and the bytes in their order. What a shape lacks means nothing.
+// The values of a body: the u16, the u32 and the bytes in their order. What a shape lacks is 0 when read, and not written.
 pub struct Fields {
     pub word: u16,
     pub long: u32,
@@ -112,17 +112,65 @@ fn size_of(shape: Shape) -> u8
 // The numbers of a body, in a record of the shape's size.
 fn fields_in(s: &[u8], shape: Shape) -> Fields
     requires { ⌜ length (now s) ≡ 4 + size (lettersOf shape) ⌝ }
-    ensures { λ r. ⌜ valuesOf shape r ≡ numbersAt (lettersOf shape) (now (s .entry)) 4 ⌝ }
+    ensures { λ r. ⌜ r ≡ fieldsOf shape (numbersAt (lettersOf shape) (now (s .entry)) 4) ⌝ }
 {
     match shape {
-        Shape::Nothing => Fields { word: 0, long: 0, first: 0, second: 0, third: 0 },
-        Shape::Byte(_) => Fields { word: 0, long: 0, first: s[4], second: 0, third: 0 },
-        Shape::Word(_) => Fields { word: word_at(s, 4), long: 0, first: 0, second: 0, third: 0 },
-        Shape::WordByte(_, _) => Fields { word: word_at(s, 4), long: 0, first: s[6], second: 0, third: 0 },
-        Shape::WordByteByte(_, _, _) => Fields { word: word_at(s, 4), long: 0, first: s[6], second: s[7], third: 0 },
-        Shape::WordByteByteByte(_, _, _, _) => Fields { word: word_at(s, 4), long: 0, first: s[6], second: s[7], third: s[8] },
-        Shape::WordLongByte(_, _, _) => Fields { word: word_at(s, 4), long: long_at(s, 6), first: s[10], second: 0, third: 0 },
-        Shape::LongByteByte(_, _, _) => Fields { word: 0, long: long_at(s, 4), first: s[8], second: s[9], third: 0 },
+        Shape::Nothing => Fields {
+            word: 0,
+            long: 0,
+            first: 0,
+            second: 0,
+            third: 0,
+        },
+        Shape::Byte(_) => Fields {
+            word: 0,
+            long: 0,
+            first: s[4],
+            second: 0,
+            third: 0,
+        },
+        Shape::Word(_) => Fields {
+            word: word_at(s, 4),
+            long: 0,
+            first: 0,
+            second: 0,
+            third: 0,
+        },
+        Shape::WordByte(_, _) => Fields {
+            word: word_at(s, 4),
+            long: 0,
+            first: s[6],
+            second: 0,
+            third: 0,
+        },
+        Shape::WordByteByte(_, _, _) => Fields {
+            word: word_at(s, 4),
+            long: 0,
+            first: s[6],
+            second: s[7],
+            third: 0,
+        },
+        Shape::WordByteByteByte(_, _, _, _) => Fields {
+            word: word_at(s, 4),
+            long: 0,
+            first: s[6],
+            second: s[7],
+            third: s[8],
+        },
+        Shape::WordLongByte(_, _, _) => Fields {
+            word: word_at(s, 4),
+            long: long_at(s, 6),
+            first: s[10],
+            second: 0,
+            third: 0,
+        },
+        Shape::LongByteByte(_, _, _) => Fields {
+            word: 0,
+            long: long_at(s, 4),
+            first: s[8],
+            second: s[9],
+            third: 0,
+        },
     }
 }
 
@@ -135,16 +183,20 @@ fn fields_fit(shape: Shape, f: Fields) -> bool
         Shape::Byte(b) => byte_fits(b, f.first),
         Shape::Word(w) => word_fits(w, f.word),
         Shape::WordByte(w, b) => word_fits(w, f.word) & byte_fits(b, f.first),
-        Shape::WordByteByte(w, b, c) => word_fits(w, f.word) & (byte_fits(b, f.first) & byte_fits(c, f.second)),
-        Shape::WordByteByteByte(w, b, c, d) => word_fits(w, f.word) & (byte_fits(b, f.first) & (byte_fits(c, f.second) & byte_fits(d, f.third))),
-        Shape::WordLongByte(w, a, b) => word_fits(w, f.word) & (long_fits(a, f.long) & byte_fits(b, f.first)),
-        Shape::LongByteByte(a, b, c) => long_fits(a, f.long) & (byte_fits(b, f.first) & byte_fits(c, f.second)),
+        Shape::WordByteByte(w, b, c) => word_fits(w, f.word)
+            & (byte_fits(b, f.first) & byte_fits(c, f.second)),
+        Shape::WordByteByteByte(w, b, c, d) => word_fits(w, f.word)
+            & (byte_fits(b, f.first) & (byte_fits(c, f.second) & byte_fits(d, f.third))),
+        Shape::WordLongByte(w, a, b) => word_fits(w, f.word)
+            & (long_fits(a, f.long) & byte_fits(b, f.first)),
+        Shape::LongByteByte(a, b, c) => long_fits(a, f.long)
+            & (byte_fits(b, f.first) & byte_fits(c, f.second)),
     }
 }
 
 // What the body of a record holds, where it has the shape's size and every value fits.
 pub fn body_in(s: &[u8], shape: Shape) -> Body
-    ensures { λ r. ⌜ asBody shape r ≡ bodyOf (lettersOf shape) (now (s .entry)) ⌝ }
+    ensures { λ r. ⌜ r ≡ bodyAs shape (bodyOf (lettersOf shape) (now (s .entry))) ⌝ }
 {
     if s.len() != 4 + size_of(shape) as usize {
         return Body::Bad;
@@ -188,8 +240,10 @@ fn put_word(buffer: &mut [u8], at: usize, v: u16) -> usize
     requires { ⌜ at + 2 ≤ length (now buffer) ⌝ }
     ensures { λ r. ⌜ Stored (now (buffer .entry)) at (bytes 2 v) r (now (buffer .exit)) ⌝ }
 {
-    buffer[at] = (v % 256) as u8;
-    buffer[at + 1] = (v / 256 % 256) as u8;
+    let low = (v % 256) as u8;
+    let high = (v / 256 % 256) as u8;
+    buffer[at] = low;
+    buffer[at + 1] = high;
     at + 2
 }
 

@@ -5,9 +5,6 @@ ghost use Prim.Native.Nat.{ℕ};
 ghost use Rattle.records.specs.Bodies.{Wrote, asWrote, partsOf};
 ghost use Rattle.records.specs.Tables.{read, readAs, flat, write};
 ghost use Rattle.records.specs.Events.{events, asEventRead};
-use crate::letters::Byte;
-use crate::letters::Long;
-use crate::letters::Word;
 use crate::bodies::Body;
 use crate::bodies::Fields;
 use crate::bodies::Frame;
@@ -18,6 +15,9 @@ use crate::bodies::body_in;
 use crate::bodies::kind_in;
 use crate::bodies::parts_fit;
 use crate::bodies::write_parts;
+use crate::letters::Byte;
+use crate::letters::Long;
+use crate::letters::Word;
 
 pub enum Event {
     // 0101 SETUP request. The user asks for a call to an address.
@@ -138,145 +138,190 @@ fn read_kind(kind: u16, s: &[u8]) -> EventRead
 {
     match kind {
         0x0101 => {
-            let Body::Is(f) = body_in(s, Shape::LongByteByte(Long::A1, Byte::D, Byte::Q)) else {
+            let Body::Is(f) = body_in(s, Shape::LongByteByte(Long::A1, Byte::D, Byte::Q)) else { // SETUP request a d q
                 return EventRead::BadBody;
             };
-            EventRead::Is(Event::SetupRequest { address: f.long, mode: f.first, ask: f.second })
+            EventRead::Is(Event::SetupRequest {
+                address: f.long,
+                mode: f.first,
+                ask: f.second,
+            })
         }
         0x0102 => {
-            let Body::Is(f) = body_in(s, Shape::Nothing) else {
+            let Body::Is(f) = body_in(s, Shape::Nothing) else { // SETUP response
                 return EventRead::BadBody;
             };
             EventRead::Is(Event::SetupResponse)
         }
         0x0103 => {
-            let Body::Is(f) = body_in(s, Shape::Nothing) else {
+            let Body::Is(f) = body_in(s, Shape::Nothing) else { // RELEASE request
                 return EventRead::BadBody;
             };
             EventRead::Is(Event::ReleaseRequest)
         }
         0x0104 => {
-            let Body::Is(f) = body_in(s, Shape::Byte(Byte::K)) else {
+            let Body::Is(f) = body_in(s, Shape::Byte(Byte::K)) else { // TX request k
                 return EventRead::BadBody;
             };
             EventRead::Is(Event::TxRequest { go: f.first })
         }
         0x0105 => {
-            let Body::Is(f) = body_in(s, Shape::Byte(Byte::D)) else {
+            let Body::Is(f) = body_in(s, Shape::Byte(Byte::D)) else { // MODIFY request d
                 return EventRead::BadBody;
             };
             EventRead::Is(Event::ModifyRequest { mode: f.first })
         }
         0x0201 => {
-            let Body::Is(f) = body_in(s, Shape::Word(Word::I)) else {
+            let Body::Is(f) = body_in(s, Shape::Word(Word::I)) else { // D-CALL PROCEEDING i
                 return EventRead::BadBody;
             };
             EventRead::Is(Event::DCallProceeding { id: f.word })
         }
         0x0202 => {
-            let Body::Is(f) = body_in(s, Shape::Word(Word::I)) else {
+            let Body::Is(f) = body_in(s, Shape::Word(Word::I)) else { // D-ALERT i
                 return EventRead::BadBody;
             };
             EventRead::Is(Event::DAlert { id: f.word })
         }
         0x0203 => {
-            let Body::Is(f) = body_in(s, Shape::WordByteByteByte(Word::I, Byte::G, Byte::D, Byte::O)) else {
+            let Body::Is(f) = body_in(
+                s,
+                Shape::WordByteByteByte(Word::I, Byte::G, Byte::D, Byte::O), // D-CONNECT i g d o
+            ) else {
                 return EventRead::BadBody;
             };
-            EventRead::Is(Event::DConnect { id: f.word, grant: f.first, mode: f.second, code: f.third })
+            EventRead::Is(Event::DConnect {
+                id: f.word,
+                grant: f.first,
+                mode: f.second,
+                code: f.third,
+            })
         }
         0x0204 => {
-            let Body::Is(f) = body_in(s, Shape::WordByteByte(Word::I, Byte::G, Byte::O)) else {
+            let Body::Is(f) = body_in(s, Shape::WordByteByte(Word::I, Byte::G, Byte::O)) else { // D-CONNECT ACKNOWLEDGE i g o
                 return EventRead::BadBody;
             };
-            EventRead::Is(Event::DConnectAcknowledge { id: f.word, grant: f.first, code: f.second })
+            EventRead::Is(Event::DConnectAcknowledge {
+                id: f.word,
+                grant: f.first,
+                code: f.second,
+            })
         }
         0x0205 => {
-            let Body::Is(f) = body_in(s, Shape::WordLongByte(Word::I, Long::A, Byte::D)) else {
+            let Body::Is(f) = body_in(s, Shape::WordLongByte(Word::I, Long::A, Byte::D)) else { // D-SETUP i a d
                 return EventRead::BadBody;
             };
-            EventRead::Is(Event::DSetup { id: f.word, address: f.long, mode: f.first })
+            EventRead::Is(Event::DSetup {
+                id: f.word,
+                address: f.long,
+                mode: f.first,
+            })
         }
         0x0206 => {
-            let Body::Is(f) = body_in(s, Shape::WordByteByteByte(Word::I, Byte::R, Byte::O16, Byte::D)) else {
+            let Body::Is(f) = body_in(
+                s,
+                Shape::WordByteByteByte(Word::I, Byte::R, Byte::O16, Byte::D), // D-INFO i r o d
+            ) else {
                 return EventRead::BadBody;
             };
-            EventRead::Is(Event::DInfo { id: f.word, reset: f.first, code: f.second, mode: f.third })
+            EventRead::Is(Event::DInfo {
+                id: f.word,
+                reset: f.first,
+                code: f.second,
+                mode: f.third,
+            })
         }
         0x0207 => {
-            let Body::Is(f) = body_in(s, Shape::WordByte(Word::I, Byte::G)) else {
+            let Body::Is(f) = body_in(s, Shape::WordByte(Word::I, Byte::G)) else { // D-TX GRANTED i g
                 return EventRead::BadBody;
             };
-            EventRead::Is(Event::DTxGranted { id: f.word, grant: f.first })
+            EventRead::Is(Event::DTxGranted {
+                id: f.word,
+                grant: f.first,
+            })
         }
         0x0208 => {
-            let Body::Is(f) = body_in(s, Shape::Word(Word::I)) else {
+            let Body::Is(f) = body_in(s, Shape::Word(Word::I)) else { // D-TX CEASED i
                 return EventRead::BadBody;
             };
             EventRead::Is(Event::DTxCeased { id: f.word })
         }
         0x0209 => {
-            let Body::Is(f) = body_in(s, Shape::WordByte(Word::I, Byte::G)) else {
+            let Body::Is(f) = body_in(s, Shape::WordByte(Word::I, Byte::G)) else { // D-TX INTERRUPT i g
                 return EventRead::BadBody;
             };
-            EventRead::Is(Event::DTxInterrupt { id: f.word, grant: f.first })
+            EventRead::Is(Event::DTxInterrupt {
+                id: f.word,
+                grant: f.first,
+            })
         }
         0x020A => {
-            let Body::Is(f) = body_in(s, Shape::Word(Word::I)) else {
+            let Body::Is(f) = body_in(s, Shape::Word(Word::I)) else { // D-TX WAIT i
                 return EventRead::BadBody;
             };
             EventRead::Is(Event::DTxWait { id: f.word })
         }
         0x020B => {
-            let Body::Is(f) = body_in(s, Shape::WordByte(Word::I, Byte::K)) else {
+            let Body::Is(f) = body_in(s, Shape::WordByte(Word::I, Byte::K)) else { // D-TX CONTINUE i k
                 return EventRead::BadBody;
             };
-            EventRead::Is(Event::DTxContinue { id: f.word, go: f.first })
+            EventRead::Is(Event::DTxContinue {
+                id: f.word,
+                go: f.first,
+            })
         }
         0x020C => {
-            let Body::Is(f) = body_in(s, Shape::WordByteByteByte(Word::I, Byte::G, Byte::R, Byte::O16)) else {
+            let Body::Is(f) = body_in(
+                s,
+                Shape::WordByteByteByte(Word::I, Byte::G, Byte::R, Byte::O16), // D-CALL RESTORE i g r o
+            ) else {
                 return EventRead::BadBody;
             };
-            EventRead::Is(Event::DCallRestore { id: f.word, grant: f.first, reset: f.second, code: f.third })
+            EventRead::Is(Event::DCallRestore {
+                id: f.word,
+                grant: f.first,
+                reset: f.second,
+                code: f.third,
+            })
         }
         0x020D => {
-            let Body::Is(f) = body_in(s, Shape::Word(Word::I0)) else {
+            let Body::Is(f) = body_in(s, Shape::Word(Word::I0)) else { // D-DISCONNECT i
                 return EventRead::BadBody;
             };
             EventRead::Is(Event::DDisconnect { id: f.word })
         }
         0x020E => {
-            let Body::Is(f) = body_in(s, Shape::Word(Word::I0)) else {
+            let Body::Is(f) = body_in(s, Shape::Word(Word::I0)) else { // D-RELEASE i
                 return EventRead::BadBody;
             };
             EventRead::Is(Event::DRelease { id: f.word })
         }
         0x0301 => {
-            let Body::Is(f) = body_in(s, Shape::Nothing) else {
+            let Body::Is(f) = body_in(s, Shape::Nothing) else { // REPORT sent
                 return EventRead::BadBody;
             };
             EventRead::Is(Event::ReportSent)
         }
         0x0302 => {
-            let Body::Is(f) = body_in(s, Shape::Nothing) else {
+            let Body::Is(f) = body_in(s, Shape::Nothing) else { // REPORT failed
                 return EventRead::BadBody;
             };
             EventRead::Is(Event::ReportFailed)
         }
         0x0303 => {
-            let Body::Is(f) = body_in(s, Shape::Nothing) else {
+            let Body::Is(f) = body_in(s, Shape::Nothing) else { // BREAK
                 return EventRead::BadBody;
             };
             EventRead::Is(Event::Break)
         }
         0x0304 => {
-            let Body::Is(f) = body_in(s, Shape::Nothing) else {
+            let Body::Is(f) = body_in(s, Shape::Nothing) else { // RESUME
                 return EventRead::BadBody;
             };
             EventRead::Is(Event::Resume)
         }
         0x0401 => {
-            let Body::Is(f) = body_in(s, Shape::Word(Word::N)) else {
+            let Body::Is(f) = body_in(s, Shape::Word(Word::N)) else { // expiry n
                 return EventRead::BadBody;
             };
             EventRead::Is(Event::Expiry { timer: f.word })
@@ -302,122 +347,281 @@ fn event_parts(e: Event) -> Parts
         Event::SetupRequest { address, mode, ask } => Parts {
             kind: 0x0101,
             shape: Shape::LongByteByte(Long::A1, Byte::D, Byte::Q),
-            fields: Fields { word: 0, long: address, first: mode, second: ask, third: 0 },
+            fields: Fields {
+                word: 0,
+                long: address,
+                first: mode,
+                second: ask,
+                third: 0,
+            },
         },
         Event::SetupResponse => Parts {
             kind: 0x0102,
             shape: Shape::Nothing,
-            fields: Fields { word: 0, long: 0, first: 0, second: 0, third: 0 },
+            fields: Fields {
+                word: 0,
+                long: 0,
+                first: 0,
+                second: 0,
+                third: 0,
+            },
         },
         Event::ReleaseRequest => Parts {
             kind: 0x0103,
             shape: Shape::Nothing,
-            fields: Fields { word: 0, long: 0, first: 0, second: 0, third: 0 },
+            fields: Fields {
+                word: 0,
+                long: 0,
+                first: 0,
+                second: 0,
+                third: 0,
+            },
         },
         Event::TxRequest { go } => Parts {
             kind: 0x0104,
             shape: Shape::Byte(Byte::K),
-            fields: Fields { word: 0, long: 0, first: go, second: 0, third: 0 },
+            fields: Fields {
+                word: 0,
+                long: 0,
+                first: go,
+                second: 0,
+                third: 0,
+            },
         },
         Event::ModifyRequest { mode } => Parts {
             kind: 0x0105,
             shape: Shape::Byte(Byte::D),
-            fields: Fields { word: 0, long: 0, first: mode, second: 0, third: 0 },
+            fields: Fields {
+                word: 0,
+                long: 0,
+                first: mode,
+                second: 0,
+                third: 0,
+            },
         },
         Event::DCallProceeding { id } => Parts {
             kind: 0x0201,
             shape: Shape::Word(Word::I),
-            fields: Fields { word: id, long: 0, first: 0, second: 0, third: 0 },
+            fields: Fields {
+                word: id,
+                long: 0,
+                first: 0,
+                second: 0,
+                third: 0,
+            },
         },
         Event::DAlert { id } => Parts {
             kind: 0x0202,
             shape: Shape::Word(Word::I),
-            fields: Fields { word: id, long: 0, first: 0, second: 0, third: 0 },
+            fields: Fields {
+                word: id,
+                long: 0,
+                first: 0,
+                second: 0,
+                third: 0,
+            },
         },
-        Event::DConnect { id, grant, mode, code } => Parts {
+        Event::DConnect {
+            id,
+            grant,
+            mode,
+            code,
+        } => Parts {
             kind: 0x0203,
             shape: Shape::WordByteByteByte(Word::I, Byte::G, Byte::D, Byte::O),
-            fields: Fields { word: id, long: 0, first: grant, second: mode, third: code },
+            fields: Fields {
+                word: id,
+                long: 0,
+                first: grant,
+                second: mode,
+                third: code,
+            },
         },
         Event::DConnectAcknowledge { id, grant, code } => Parts {
             kind: 0x0204,
             shape: Shape::WordByteByte(Word::I, Byte::G, Byte::O),
-            fields: Fields { word: id, long: 0, first: grant, second: code, third: 0 },
+            fields: Fields {
+                word: id,
+                long: 0,
+                first: grant,
+                second: code,
+                third: 0,
+            },
         },
         Event::DSetup { id, address, mode } => Parts {
             kind: 0x0205,
             shape: Shape::WordLongByte(Word::I, Long::A, Byte::D),
-            fields: Fields { word: id, long: address, first: mode, second: 0, third: 0 },
+            fields: Fields {
+                word: id,
+                long: address,
+                first: mode,
+                second: 0,
+                third: 0,
+            },
         },
-        Event::DInfo { id, reset, code, mode } => Parts {
+        Event::DInfo {
+            id,
+            reset,
+            code,
+            mode,
+        } => Parts {
             kind: 0x0206,
             shape: Shape::WordByteByteByte(Word::I, Byte::R, Byte::O16, Byte::D),
-            fields: Fields { word: id, long: 0, first: reset, second: code, third: mode },
+            fields: Fields {
+                word: id,
+                long: 0,
+                first: reset,
+                second: code,
+                third: mode,
+            },
         },
         Event::DTxGranted { id, grant } => Parts {
             kind: 0x0207,
             shape: Shape::WordByte(Word::I, Byte::G),
-            fields: Fields { word: id, long: 0, first: grant, second: 0, third: 0 },
+            fields: Fields {
+                word: id,
+                long: 0,
+                first: grant,
+                second: 0,
+                third: 0,
+            },
         },
         Event::DTxCeased { id } => Parts {
             kind: 0x0208,
             shape: Shape::Word(Word::I),
-            fields: Fields { word: id, long: 0, first: 0, second: 0, third: 0 },
+            fields: Fields {
+                word: id,
+                long: 0,
+                first: 0,
+                second: 0,
+                third: 0,
+            },
         },
         Event::DTxInterrupt { id, grant } => Parts {
             kind: 0x0209,
             shape: Shape::WordByte(Word::I, Byte::G),
-            fields: Fields { word: id, long: 0, first: grant, second: 0, third: 0 },
+            fields: Fields {
+                word: id,
+                long: 0,
+                first: grant,
+                second: 0,
+                third: 0,
+            },
         },
         Event::DTxWait { id } => Parts {
             kind: 0x020A,
             shape: Shape::Word(Word::I),
-            fields: Fields { word: id, long: 0, first: 0, second: 0, third: 0 },
+            fields: Fields {
+                word: id,
+                long: 0,
+                first: 0,
+                second: 0,
+                third: 0,
+            },
         },
         Event::DTxContinue { id, go } => Parts {
             kind: 0x020B,
             shape: Shape::WordByte(Word::I, Byte::K),
-            fields: Fields { word: id, long: 0, first: go, second: 0, third: 0 },
+            fields: Fields {
+                word: id,
+                long: 0,
+                first: go,
+                second: 0,
+                third: 0,
+            },
         },
-        Event::DCallRestore { id, grant, reset, code } => Parts {
+        Event::DCallRestore {
+            id,
+            grant,
+            reset,
+            code,
+        } => Parts {
             kind: 0x020C,
             shape: Shape::WordByteByteByte(Word::I, Byte::G, Byte::R, Byte::O16),
-            fields: Fields { word: id, long: 0, first: grant, second: reset, third: code },
+            fields: Fields {
+                word: id,
+                long: 0,
+                first: grant,
+                second: reset,
+                third: code,
+            },
         },
         Event::DDisconnect { id } => Parts {
             kind: 0x020D,
             shape: Shape::Word(Word::I0),
-            fields: Fields { word: id, long: 0, first: 0, second: 0, third: 0 },
+            fields: Fields {
+                word: id,
+                long: 0,
+                first: 0,
+                second: 0,
+                third: 0,
+            },
         },
         Event::DRelease { id } => Parts {
             kind: 0x020E,
             shape: Shape::Word(Word::I0),
-            fields: Fields { word: id, long: 0, first: 0, second: 0, third: 0 },
+            fields: Fields {
+                word: id,
+                long: 0,
+                first: 0,
+                second: 0,
+                third: 0,
+            },
         },
         Event::ReportSent => Parts {
             kind: 0x0301,
             shape: Shape::Nothing,
-            fields: Fields { word: 0, long: 0, first: 0, second: 0, third: 0 },
+            fields: Fields {
+                word: 0,
+                long: 0,
+                first: 0,
+                second: 0,
+                third: 0,
+            },
         },
         Event::ReportFailed => Parts {
             kind: 0x0302,
             shape: Shape::Nothing,
-            fields: Fields { word: 0, long: 0, first: 0, second: 0, third: 0 },
+            fields: Fields {
+                word: 0,
+                long: 0,
+                first: 0,
+                second: 0,
+                third: 0,
+            },
         },
         Event::Break => Parts {
             kind: 0x0303,
             shape: Shape::Nothing,
-            fields: Fields { word: 0, long: 0, first: 0, second: 0, third: 0 },
+            fields: Fields {
+                word: 0,
+                long: 0,
+                first: 0,
+                second: 0,
+                third: 0,
+            },
         },
         Event::Resume => Parts {
             kind: 0x0304,
             shape: Shape::Nothing,
-            fields: Fields { word: 0, long: 0, first: 0, second: 0, third: 0 },
+            fields: Fields {
+                word: 0,
+                long: 0,
+                first: 0,
+                second: 0,
+                third: 0,
+            },
         },
         Event::Expiry { timer } => Parts {
             kind: 0x0401,
             shape: Shape::Word(Word::N),
-            fields: Fields { word: timer, long: 0, first: 0, second: 0, third: 0 },
+            fields: Fields {
+                word: timer,
+                long: 0,
+                first: 0,
+                second: 0,
+                third: 0,
+            },
         },
     }
 }

@@ -1,6 +1,6 @@
 // One event or message as bytes: length, kind and body, little-endian. What is written reads back as the same
 // value, and what is read is written back as the same bytes (proofs/RoundTrip).
-pub mod letters;
 pub mod bodies;
 pub mod events;
+pub mod letters;
 pub mod messages;

@@ -38,7 +38,7 @@ fields-in-spec =
     (λ c. let t = c .before .before .before in omega (arith, rw (t .enum-told8 .given .1) at (t .before .before .before .pre)))
     (λ c. rw (c .enum-told .given .1))
     (λ c. simp (c .before .enum-told2 .given .1, number-one))
-    (λ c. simp (c .before .enum-told3 .given .1, c .word-at .ensures, number-one))
+    (λ c. simp (c .before .enum-told3 .given .1, c .word-at .ensures))
     (λ c. simp (c .before .before .enum-told4 .given .1, c .before .word-at2 .ensures, number-one))
     (λ c. simp (c .before .before .before .enum-told5 .given .1, c .before .before .word-at3 .ensures, number-one))
     (λ c. simp (c .before .before .before .before .enum-told6 .given .1, c .before .before .before .word-at4 .ensures, number-one))

@@ -17,6 +17,6 @@ word-at-spec =
     (λ c. search needs)
     (λ c. search needs)
     (λ c. omega (arith, c .shared-slice-known2 .given (c .before .before .args .at + 1)))
-    (λ c. omega (arith, c .shared-slice-known2 .given (c .before .before .args .at + 1)))
+    (λ c. omega (arith, c .before .shared-slice-known .given (c .before .before .args .at), c .shared-slice-known2 .given (c .before .before .args .at + 1)))
     (λ c. omega (arith, c .before .shared-slice-known .given (c .before .before .args .at), c .shared-slice-known2 .given (c .before .before .args .at + 1)))
     (λ c. rw add-one (omega arith)))
