@@ -1,4 +1,4 @@
--- What the client bought: the three demands over every run, as types. The proofs are in proofs/, under the same names.
+-- What the client bought: the three demands over every run, as types. proofs/Demands.antt has a proof of each.
 use Prim.Native.Nat.{ℕ}
 use mathlib.Core.Path.{_≡_}
 use mathlib.Core.Bool.{Bool, true, false, cond, not, _&&_, _||_}
@@ -9,7 +9,7 @@ use lib.ListN.{length}
 use lib.Seq.{sets}
 use Rattle.records.specs.declared.events.Event.{Event}
 use Rattle.records.specs.declared.events.Event.the-variants.{SetupRequest, SetupResponse, ReleaseRequest, TxRequest, ModifyRequest, DCallProceeding, DAlert, DConnect, DConnectAcknowledge, DSetup, DInfo, DTxGranted, DTxCeased, DTxInterrupt, DTxWait, DTxContinue, DCallRestore, DDisconnect, DRelease, ReportSent, ReportFailed, Break, Resume, Expiry}
-use Rattle.records.specs.Tables.{Read, taken, refused, read}
+use Rattle.records.specs.Tables.{Read, taken, refused, read, fine}
 use Rattle.records.specs.Events.{events}
 use Rattle.callcontrol.specs.declared.call.State.{State}
 use Rattle.callcontrol.specs.declared.call.Path.{Path}
@@ -31,7 +31,8 @@ abbrev pub ofEvent : (Event → Bool) → Read Event → Bool
 ofEvent p (taken e) = p e
 ofEvent p (refused m) = false
 
--- where each answer of the paper's table applies, whatever the others
+-- where each answer of the paper's table applies. 2, 3 and 4 are the reader's, which gives the lowest of the three; each of the others is
+-- told without a look at those below it
 unfoldable pub applies : ℕ → Call → List ℕ → List ℕ → Bool
 applies n c bytes buffer =
     cond (eqb n 1) (not (sound c))
@@ -57,6 +58,27 @@ Refused =
     (c : Call) (bytes buffer : List ℕ) (n : ℕ) →
     stepOf c bytes buffer .answer ≡ n → (n ≡ 0 → ⊥) → stepOf c bytes buffer ≡ refusal n c buffer
 
+-- a list of the logic may have any length; the record's array has seven timers
+abbrev pub sized : Call → Type 0
+sized c = length (c .timers) ≡ 7
+
+-- a sound record with as many timers as the array
+pub record Kept (c : Call) : Type 0 where
+  pub size : sized c
+  pub meets : sound c ≡ true
+
+-- the fresh record is sound
+abbrev pub FreshIsSound : Type 0
+FreshIsSound = Kept freshCall
+
+-- a row gives a sound record from a sound one
+abbrev pub KeepsSound : Type 0
+KeepsSound = (c : Call) (e : Event) → Kept c → fine events e ≡ true → Kept (rowFor c e .call)
+
+-- every step from a sound record gives a sound one, whatever bytes come and whatever is lent
+abbrev pub StepKeepsSound : Type 0
+StepKeepsSound = (c : Call) (bytes buffer : List ℕ) → Kept c → Kept (stepOf c bytes buffer .call)
+
 -- every record of a run is sound
 abbrev pub Sound : Type 0
 Sound = (ts : List Turn) → sound (run freshCall ts) ≡ true
@@ -66,6 +88,10 @@ abbrev pub NeverUnsound : Type 0
 NeverUnsound = (ts : List Turn) (t : Turn) → outcome (run freshCall ts) t .answer ≡ 1 → ⊥
 
 -- Demand 2: what is taken gives the record and the bytes of the rows
+
+-- the answer 0 says that an event was taken
+abbrev pub Zero : Type 0
+Zero = (c : Call) (t : Turn) → outcome c t .answer ≡ 0 → (e : Event) × (takenBy c t ≡ some e)
 
 abbrev pub Taken : Type 0
 Taken =
@@ -115,7 +141,7 @@ restoresIn i (some (Expiry n)) = false
 unfoldable pub restores : ℕ → Call → Turn → Bool
 restores i c t = restoresIn i (takenBy c t)
 
--- some turns in which neither such a restoration is taken nor the call ends
+-- some turns in which neither such a restoration is taken nor the call ends. A call that is released and not yet ended is quiet too
 unfoldable pub quiet : ℕ → Call → List Turn → Bool
 quiet i c [] = true
 quiet i c (t ∷ ts) = not (restores i c t) && (not (ends c t) && quiet i (next c t) ts)
@@ -141,11 +167,16 @@ Restored =
     × (run freshCall (ts ++ t ∷ us ++ v ∷ []) .mode ≡ run freshCall ts .mode)
     × (run freshCall (ts ++ t ∷ us ++ v ∷ []) .code ≡ cond (eqb r 1) (cond (eqb o 16) (run freshCall ts .code) o) (run freshCall ts .code))
     × (runs (run freshCall (ts ++ t ∷ us ++ v ∷ [])) T310 ≡ cond (eqb r 1) true (runs (run freshCall ts) T310))
+    × (run freshCall (ts ++ t ∷ us ++ v ∷ []) .state ≡ State.CallActive)
+    × (run freshCall (ts ++ t ∷ us ++ v ∷ []) .path ≡ Path.Up)
 
--- Demand 3, ended: a turn that writes RELEASE confirm, or RELEASE indication 3 or 4, leaves the fresh record
+-- Demand 3, ended: a turn that writes RELEASE confirm, or RELEASE indication 3 or 4, leaves the fresh record, and the U-plane off
 
 abbrev pub Ended : Type 0
 Ended = (ts : List Turn) (t : Turn) → ends (run freshCall ts) t ≡ true → run freshCall (ts ++ t ∷ []) ≡ freshCall
+
+abbrev pub EndedOff : Type 0
+EndedOff = (ts : List Turn) (t : Turn) → ends (run freshCall ts) t ≡ true → told (ts ++ t ∷ []) ≡ 4
 
 -- and from any state but IDLE there is no other way to it
 abbrev pub NoOtherEnd : Type 0

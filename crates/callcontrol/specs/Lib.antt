@@ -6,3 +6,4 @@ pub mod Step
 pub mod Runs
 pub mod History
 pub mod Demands
+pub mod Witness

@@ -1,0 +1,114 @@
+-- Every demand is met.
+use Prim.Native.Nat.{ℕ}
+use mathlib.Core.Path.{_≡_, refl, sym, _∙_, ap}
+use mathlib.Core.Bool.{Bool, true, false, cond, not}
+use mathlib.Core.List.{List, [], _∷_, _++_}
+use mathlib.Core.Option.{some}
+use native.Mathlib.Omega.{arith}
+use lib.ListN.{length}
+use Rattle.records.specs.declared.events.Event.{Event}
+use Rattle.callcontrol.specs.declared.call.Call.{Call}
+use Rattle.callcontrol.specs.Call.{freshCall, sound}
+use Rattle.callcontrol.specs.Step.{stepOf}
+use Rattle.callcontrol.specs.Runs.{Turn, outcome, next, run, takenBy, told}
+use Rattle.callcontrol.specs.Demands as claims
+use Rattle.callcontrol.specs.Demands.{Kept, applies}
+use Rattle.callcontrol.proofs.Answers as Answers
+use Rattle.callcontrol.proofs.Sound as Sound
+use Rattle.callcontrol.proofs.Told as Told
+use Rattle.callcontrol.proofs.Ended as Ended
+use Rattle.callcontrol.proofs.Cut as Cut
+
+-- ---- demand 1
+
+pub answered : claims.Answered
+answered = Answers.answered
+
+pub refuses : claims.Refused
+refuses = Answers.refuses
+
+pub fresh-is-sound : claims.FreshIsSound
+fresh-is-sound = Sound.fresh-is-sound
+
+pub keeps-sound : claims.KeepsSound
+keeps-sound = Sound.keeps-sound
+
+pub step-keeps-sound : claims.StepKeepsSound
+step-keeps-sound = Sound.step-keeps-sound
+
+run-kept : (c : Call) → Kept c → (ts : List Turn) → Kept (run c ts)
+unfolding run next outcome
+run-kept c k [] = k
+run-kept c k (t ∷ ts) = run-kept (next c t) (step-keeps-sound c (t .event) (t .buffer) k) ts
+
+always : (ts : List Turn) → Kept (run freshCall ts)
+always = run-kept freshCall fresh-is-sound
+
+pub run-sound : claims.Sound
+run-sound ts = always ts .meets
+
+run-sized : (ts : List Turn) → length (run freshCall ts .timers) ≡ 7
+run-sized ts = always ts .size
+
+-- a number found among 2 to 7, or none, is not 1
+not-one : (b₂ b₃ b₄ b₅ b₆ b₇ : Bool) → _≡_ {A = ℕ} (cond b₂ 2 (cond b₃ 3 (cond b₄ 4 (cond b₅ 5 (cond b₆ 6 (cond b₇ 7 0)))))) 1 → ⊥
+not-one true b₃ b₄ b₅ b₆ b₇ e = omega arith
+not-one false true b₄ b₅ b₆ b₇ e = omega arith
+not-one false false true b₅ b₆ b₇ e = omega arith
+not-one false false false true b₆ b₇ e = omega arith
+not-one false false false false true b₇ e = omega arith
+not-one false false false false false true e = omega arith
+not-one false false false false false false e = omega arith
+
+sound-answer : (c : Call) (bytes buffer : List ℕ) → sound c ≡ true → stepOf c bytes buffer .answer ≡ 1 → ⊥
+unfolding applies
+sound-answer c bytes buffer s e =
+    let p : ℕ → Bool = λ n. applies n c bytes buffer in
+    let unsound : applies 1 c bytes buffer ≡ false = rw s in
+    not-one (p 2) (p 3) (p 4) (p 5) (p 6) (p 7)
+    (sym (answered c bytes buffer ∙ ap (λ (b : Bool). cond b 1 (cond (p 2) 2 (cond (p 3) 3 (cond (p 4) 4 (cond (p 5) 5 (cond (p 6) 6 (cond (p 7) 7 0))))))) unsound) ∙ e)
+
+pub never-unsound : claims.NeverUnsound
+unfolding outcome
+never-unsound ts t = sound-answer (run freshCall ts) (t .event) (t .buffer) (run-sound ts)
+
+-- ---- demand 2
+
+pub zero-is-taken : claims.Zero
+zero-is-taken = Answers.zero-is-taken
+
+pub taken-gives : claims.Taken
+taken-gives = Answers.taken-gives
+
+-- ---- demand 3
+
+pub told-by-history : claims.Told
+told-by-history =
+    Told.told-by-history
+    (λ c e size meets good row. let k = keeps-sound c e (record { size = size; meets = meets }) good in (k .meets, k .size))
+
+told-is-plane : (ts : List Turn) → told ts ≡ run freshCall ts .plane
+told-is-plane ts = told-by-history ts .1
+
+pub cut : claims.Cut
+cut = Cut.cut run-sound told-is-plane
+
+pub restored : claims.Restored
+restored = Cut.restored run-sound run-sized
+
+pub ended : claims.Ended
+ended = Ended.ended
+
+pub ended-off : claims.EndedOff
+ended-off ts t e = told-is-plane (ts ++ t ∷ []) ∙ ap (λ (c : Call). c .plane) (ended ts t e)
+
+pub no-other-end : claims.NoOtherEnd
+no-other-end = Ended.no-other-end
+
+-- ---- in the client's words
+
+pub idle-is-fresh : claims.IdleIsFresh
+idle-is-fresh = Ended.idle-is-fresh run-sound run-sized
+
+pub transmits : claims.Transmits
+transmits = Told.transmits told-by-history run-sound

@@ -1,0 +1,278 @@
+-- A record is sound exactly where it is in one of eight situations, written out by state and path. In each the state, the path, the planes
+-- that must be off and the timers that go with them are constructors and numerals, so that a row computes there.
+use Prim.Native.Nat.{ℕ, zero, suc, _≤_}
+use mathlib.Core.Bool.{Bool, true, false, not, _&&_, _||_, Bool·beq, or-true, false≢true}
+use mathlib.Core.List.{List, [], _∷_}
+use mathlib.Core.Path.{_≡_, refl}
+use native.Mathlib.Omega.{arith}
+use borrow.Author.Tests.{leb-true, eqb-true, le-leb, not-true}
+use lib.Dec.{leb, eqb}
+use lib.ListN.{length, getD}
+use Rattle.callcontrol.specs.declared.call.State.{State}
+use Rattle.callcontrol.specs.declared.call.Path.{Path}
+use Rattle.callcontrol.specs.declared.call.Call.{Call}
+use Rattle.callcontrol.specs.Call.{_⇒_, freshCall, stateNumber, pathNumber, isIdle, isActive, isUp, mayLackId, runs, T301, T302, T303, T306, T308, T310, T311, sound, inRange, asFresh, allStopped, timersAgree, placesAgree}
+use Rattle.callcontrol.specs.Demands.{Kept}
+
+-- ---- the situations
+
+-- the numbers that every situation leaves open
+pub record Numbers (i a d q s o : ℕ) : Type 0 where
+  pub id : i ≤ 16383
+  pub address : a ≤ 16777215
+  pub mode : d ≤ 1
+  pub asked : q ≤ 1
+  pub sent : s ≤ 1
+  pub code : o ≤ 15
+
+-- the planes one by one, each with whether T311 runs in it
+pub data Plane : ℕ → Bool → Type 0 where
+  transmit : Plane 1 true
+  receive : Plane 2 false
+  duplex : Plane 3 false
+  none : Plane 4 false
+
+-- a call, its timers one by one
+abbrev pub call : State → Path → (i a d q s pl k o : ℕ) (t₁ t₂ t₃ t₆ t₈ t₁₀ t₁₁ : Bool) → Call
+call st p i a d q s pl k o t₁ t₂ t₃ t₆ t₈ t₁₀ t₁₁ =
+    record {
+      state = st;
+      id = i;
+      address = a;
+      mode = d;
+      asked = q;
+      sent = s;
+      path = p;
+      plane = pl;
+      kept = k;
+      code = o;
+      timers = t₁ ∷ t₂ ∷ t₃ ∷ t₆ ∷ t₈ ∷ t₁₀ ∷ t₁₁ ∷ [];
+    }
+
+-- the sound calls of each state and path
+pub data At : State → Path → Call → Type 0 where
+  idle : At State.Idle Path.Up freshCall
+  mo : {i a d q s o : ℕ} {t₁ t₂ t₃ t₈ t₁₀ : Bool} → Numbers i a d q s o
+      → At State.MoCallSetup Path.Up (call State.MoCallSetup Path.Up i a d q s 4 4 o t₁ t₂ t₃ false t₈ t₁₀ false)
+  mt : {i a d q s o : ℕ} {t₁ t₂ t₃ t₈ t₁₀ : Bool} → 1 ≤ i → Numbers i a d q s o
+      → At State.MtCallSetup Path.Up (call State.MtCallSetup Path.Up i a d q s 4 4 o t₁ t₂ t₃ false t₈ t₁₀ false)
+  up : {i a d q s p o : ℕ} {t₁ t₂ t₃ t₈ t₁₀ t₁₁ : Bool} → 1 ≤ i → Plane p t₁₁ → Numbers i a d q s o
+      → At State.CallActive Path.Up (call State.CallActive Path.Up i a d q s p 4 o t₁ t₂ t₃ false t₈ t₁₀ t₁₁)
+  broken : {i a d q s o : ℕ} {t₁ t₂ t₃ t₈ t₁₀ : Bool} → 1 ≤ i → Numbers i a d q s o
+      → At State.CallActive Path.Broken (call State.CallActive Path.Broken i a d q s 4 4 o t₁ t₂ t₃ false t₈ t₁₀ false)
+  restoring : {i a d q s o : ℕ} {t₁ t₂ t₃ t₈ t₁₀ : Bool} → 1 ≤ i → Numbers i a d q s o
+      → At State.CallActive Path.Restoring (call State.CallActive Path.Restoring i a d q s 4 4 o t₁ t₂ t₃ true t₈ t₁₀ false)
+  wait : {i a d q s k o : ℕ} {t₁ t₂ t₃ t₈ t₁₀ t : Bool} → 1 ≤ i → Plane k t → Numbers i a d q s o
+      → At State.Wait Path.Up (call State.Wait Path.Up i a d q s 4 k o t₁ t₂ t₃ false t₈ t₁₀ false)
+  disconnect : {i a d q s o : ℕ} {t₁ t₂ t₃ t₈ t₁₀ : Bool} → Numbers i a d q s o
+      → At State.CallDisconnect Path.Up (call State.CallDisconnect Path.Up i a d q s 4 4 o t₁ t₂ t₃ false t₈ t₁₀ false)
+
+pub data Situation (c : Call) : Type 0 where
+  at : {s : State} {w : Path} → At s w c → Situation c
+
+-- its state and path are the call's
+pub here : (c : Call) → At (c .state) (c .path) c → Situation c
+here c v = at v
+
+-- ---- a situation is sound: each part of the test is in the situation's facts
+
+and : (a b : Bool) → a ≡ true → b ≡ true → (a && b) ≡ true
+and true b p q = q
+and false b p q = p
+
+left : (a b : Bool) → a ≡ true → (a || b) ≡ true
+left true b p = refl
+left false b p = cc
+
+plane-fits : {p : ℕ} {t : Bool} → Plane p t → (leb 1 p ≡ true) × (leb p 4 ≡ true) × (Bool·beq t (eqb p 1) ≡ true)
+plane-fits transmit = (refl, refl, refl)
+plane-fits receive = (refl, refl, refl)
+plane-fits duplex = (refl, refl, refl)
+plane-fits none = (refl, refl, refl)
+
+ranged : {t u : Bool} (c : Call) → Numbers (c .id) (c .address) (c .mode) (c .asked) (c .sent) (c .code) → Plane (c .plane) t
+    → Plane (c .kept) u → inRange c ≡ true
+unfolding inRange
+ranged c n p k = search (and, le-leb, plane-fits p .0, plane-fits p .1, plane-fits k .0, plane-fits k .1) depth 12
+
+ruleset meeting = (and, left, or-true, ranged, none, le-leb)
+
+pub kept : {s : State} {w : Path} {c : Call} → At s w c → Kept c
+unfolding sound asFresh allStopped timersAgree placesAgree inRange
+kept idle = record { size = refl; meets = refl }
+kept (mo n) = record { size = refl; meets = search meeting depth 8 }
+kept (mt l n) = record { size = refl; meets = search meeting depth 8 }
+kept (up l p n) = record { size = refl; meets = search (meeting, plane-fits p .2) depth 8 }
+kept (broken l n) = record { size = refl; meets = search meeting depth 8 }
+kept (restoring l n) = record { size = refl; meets = search meeting depth 8 }
+kept (wait l k n) = record { size = refl; meets = search meeting depth 8 }
+kept (disconnect n) = record { size = refl; meets = search meeting depth 8 }
+
+-- ---- a sound record is in a situation: the test is taken apart, and what it fixes is put in
+
+and-l : (a b : Bool) → (a && b) ≡ true → a ≡ true
+and-l true b h = refl
+and-l false b h = h
+
+and-r : (a b : Bool) → (a && b) ≡ true → b ≡ true
+and-r true b h = h
+and-r false b h = cc
+
+agree : (a b : Bool) → Bool·beq a b ≡ true → a ≡ b
+agree true true h = refl
+agree true false h = cc
+agree false true h = cc
+agree false false h = refl
+
+plane-of : (p : ℕ) → leb 1 p ≡ true → leb p 4 ≡ true → Plane p (eqb p 1)
+plane-of zero l h = absurd (false≢true l)
+plane-of (suc zero) l h = transmit
+plane-of (suc (suc zero)) l h = receive
+plane-of (suc (suc (suc zero))) l h = duplex
+plane-of (suc (suc (suc (suc zero)))) l h = none
+plane-of (suc (suc (suc (suc (suc p))))) l h = absurd (omega (arith, leb-true (suc (suc (suc (suc (suc p))))) 4 h))
+
+-- the paper's clauses one by one
+record Clauses (c : Call) : Type 0 where
+  numbers : Numbers (c .id) (c .address) (c .mode) (c .asked) (c .sent) (c .code)
+  told : Plane (c .plane) (eqb (c .plane) 1)
+  held : Plane (c .kept) (eqb (c .kept) 1)
+  fresh : (isIdle c ⇒ asFresh c) ≡ true
+  t311 : runs c T311 ≡ eqb (c .plane) 1
+  t306 : runs c T306 ≡ eqb (pathNumber (c .path)) 2
+  off-unless : (eqb (c .plane) 4 || isActive c && isUp c) ≡ true
+  up-unless : (isUp c || isActive c) ≡ true
+  four-unless : (eqb (c .kept) 4 || eqb (stateNumber (c .state)) 4) ≡ true
+  named-unless : (leb 1 (c .id) || mayLackId (c .state)) ≡ true
+
+numbers-of : (c : Call) → inRange c ≡ true → Numbers (c .id) (c .address) (c .mode) (c .asked) (c .sent) (c .code)
+unfolding inRange
+numbers-of c h = search (and-l, and-r, leb-true) depth 12
+
+told-of : (c : Call) → inRange c ≡ true → Plane (c .plane) (eqb (c .plane) 1)
+unfolding inRange
+told-of c h = search (and-l, and-r, plane-of) depth 12
+
+held-of : (c : Call) → inRange c ≡ true → Plane (c .kept) (eqb (c .kept) 1)
+unfolding inRange
+held-of c h = search (and-l, and-r, plane-of) depth 12
+
+clauses : (c : Call) → sound c ≡ true → Clauses c
+unfolding sound timersAgree placesAgree
+clauses c h = search (and-l, and-r, numbers-of, told-of, held-of, agree)
+
+or-no : (a : Bool) → (a || false) ≡ true → a ≡ true
+or-no true h = refl
+or-no false h = h
+
+is-four : (p : ℕ) → (eqb p 4 || false) ≡ true → p ≡ 4
+is-four p h = eqb-true p 4 (or-no _ h)
+
+is-named : (i : ℕ) → (leb 1 i || false) ≡ true → 1 ≤ i
+is-named i h = leb-true 1 i (or-no _ h)
+
+-- IDLE leaves nothing open
+record Fresh (c : Call) : Type 0 where
+  id : c .id ≡ 0
+  address : c .address ≡ 0
+  mode : c .mode ≡ 0
+  asked : c .asked ≡ 0
+  sent : c .sent ≡ 0
+  plane : c .plane ≡ 4
+  kept : c .kept ≡ 4
+  code : c .code ≡ 0
+  t301 : runs c T301 ≡ false
+  t302 : runs c T302 ≡ false
+  t303 : runs c T303 ≡ false
+  t306 : runs c T306 ≡ false
+  t308 : runs c T308 ≡ false
+  t310 : runs c T310 ≡ false
+  t311 : runs c T311 ≡ false
+
+fresh-of : (c : Call) → asFresh c ≡ true → Fresh c
+unfolding asFresh allStopped
+fresh-of c h = search (and-l, and-r, eqb-true, not-true) depth 20
+
+blank : (i a d q s p k o : ℕ) (t₁ t₂ t₃ t₆ t₈ t₁₀ t₁₁ : Bool) → Fresh (call State.Idle Path.Up i a d q s p k o t₁ t₂ t₃ t₆ t₈ t₁₀ t₁₁)
+    → call State.Idle Path.Up i a d q s p k o t₁ t₂ t₃ t₆ t₈ t₁₀ t₁₁ ≡ freshCall
+blank i a d q s p k o t₁ t₂ t₃ t₆ t₈ t₁₀ t₁₁ f = cc
+
+module _ {i a d q s p k o : ℕ} {t₁ t₂ t₃ t₆ t₈ t₁₀ t₁₁ : Bool} where
+  -- a state and path in which the plane is off and none is kept
+  still : {st : State} {w : Path} → At st w (call st w i a d q s 4 4 o t₁ t₂ t₃ (eqb (pathNumber w) 2) t₈ t₁₀ false)
+      → (eqb p 4 || false) ≡ true → (eqb k 4 || false) ≡ true → t₁₁ ≡ eqb p 1 → t₆ ≡ eqb (pathNumber w) 2
+      → Situation (call st w i a d q s p k o t₁ t₂ t₃ t₆ t₈ t₁₀ t₁₁)
+  still v h₁ h₂ h₃ h₄ = rw (h₄, h₃, is-four p h₁, is-four k h₂) (at v)
+
+  seen-up : (st : State) → Clauses (call st Path.Up i a d q s p k o t₁ t₂ t₃ t₆ t₈ t₁₀ t₁₁)
+      → Situation (call st Path.Up i a d q s p k o t₁ t₂ t₃ t₆ t₈ t₁₀ t₁₁)
+  seen-up State.Idle f = rw (blank i a d q s p k o t₁ t₂ t₃ t₆ t₈ t₁₀ t₁₁ (fresh-of _ (f .fresh))) (at idle)
+  seen-up State.MoCallSetup f = still (mo (f .numbers)) (f .off-unless) (f .four-unless) (f .t311) (f .t306)
+  seen-up State.MtCallSetup f = still (mt (is-named i (f .named-unless)) (f .numbers)) (f .off-unless) (f .four-unless) (f .t311) (f .t306)
+  seen-up State.CallActive f =
+      rw (f .t306, f .t311, is-four k (f .four-unless)) (at (up (is-named i (f .named-unless)) (f .told) (f .numbers)))
+  seen-up State.Wait f =
+      rw (f .t306, f .t311, is-four p (f .off-unless)) (at (wait (is-named i (f .named-unless)) (f .held) (f .numbers)))
+  seen-up State.CallDisconnect f = still (disconnect (f .numbers)) (f .off-unless) (f .four-unless) (f .t311) (f .t306)
+
+  seen-active : (w : Path) → Clauses (call State.CallActive w i a d q s p k o t₁ t₂ t₃ t₆ t₈ t₁₀ t₁₁)
+      → Situation (call State.CallActive w i a d q s p k o t₁ t₂ t₃ t₆ t₈ t₁₀ t₁₁)
+  seen-active Path.Up f = seen-up State.CallActive f
+  seen-active Path.Broken f =
+      still (broken (is-named i (f .named-unless)) (f .numbers)) (f .off-unless) (f .four-unless) (f .t311) (f .t306)
+  seen-active Path.Restoring f =
+      still (restoring (is-named i (f .named-unless)) (f .numbers)) (f .off-unless) (f .four-unless) (f .t311) (f .t306)
+
+  -- the path is up in every other state
+  seen-other : (st : State) → eqb (stateNumber st) 3 ≡ false → (w : Path)
+      → Clauses (call st w i a d q s p k o t₁ t₂ t₃ t₆ t₈ t₁₀ t₁₁)
+      → Situation (call st w i a d q s p k o t₁ t₂ t₃ t₆ t₈ t₁₀ t₁₁)
+  seen-other st h Path.Up f = seen-up st f
+  seen-other st h Path.Broken f = absurd (false≢true (rw h at (f .up-unless)))
+  seen-other st h Path.Restoring f = absurd (false≢true (rw h at (f .up-unless)))
+
+  seen : (st : State) (w : Path) → Clauses (call st w i a d q s p k o t₁ t₂ t₃ t₆ t₈ t₁₀ t₁₁)
+      → Situation (call st w i a d q s p k o t₁ t₂ t₃ t₆ t₈ t₁₀ t₁₁)
+  seen State.Idle = seen-other State.Idle refl
+  seen State.MoCallSetup = seen-other State.MoCallSetup refl
+  seen State.MtCallSetup = seen-other State.MtCallSetup refl
+  seen State.CallActive = seen-active
+  seen State.Wait = seen-other State.Wait refl
+  seen State.CallDisconnect = seen-other State.CallDisconnect refl
+
+-- an array's seven timers
+data Seven : List Bool → Type 0 where
+  seven : {t₁ t₂ t₃ t₆ t₈ t₁₀ t₁₁ : Bool} → Seven (t₁ ∷ t₂ ∷ t₃ ∷ t₆ ∷ t₈ ∷ t₁₀ ∷ t₁₁ ∷ [])
+
+seven-of : (ts : List Bool) → length ts ≡ 7 → Seven ts
+seven-of [] h = absurd (omega arith)
+seven-of (t₁ ∷ []) h = absurd (omega arith)
+seven-of (t₁ ∷ t₂ ∷ []) h = absurd (omega arith)
+seven-of (t₁ ∷ t₂ ∷ t₃ ∷ []) h = absurd (omega arith)
+seven-of (t₁ ∷ t₂ ∷ t₃ ∷ t₆ ∷ []) h = absurd (omega arith)
+seven-of (t₁ ∷ t₂ ∷ t₃ ∷ t₆ ∷ t₈ ∷ []) h = absurd (omega arith)
+seven-of (t₁ ∷ t₂ ∷ t₃ ∷ t₆ ∷ t₈ ∷ t₁₀ ∷ []) h = absurd (omega arith)
+seven-of (t₁ ∷ t₂ ∷ t₃ ∷ t₆ ∷ t₈ ∷ t₁₀ ∷ t₁₁ ∷ []) h = seven
+seven-of (t₁ ∷ t₂ ∷ t₃ ∷ t₆ ∷ t₈ ∷ t₁₀ ∷ t₁₁ ∷ t ∷ ts) h = absurd (omega arith)
+
+pub situated : (c : Call) → Kept c → Situation c
+situated c h = timers (seven-of (c .timers) (h .size)) (clauses c (h .meets))
+  where
+    with-timers : List Bool → Call
+    with-timers ts =
+        record {
+          state = c .state;
+          id = c .id;
+          address = c .address;
+          mode = c .mode;
+          asked = c .asked;
+          sent = c .sent;
+          path = c .path;
+          plane = c .plane;
+          kept = c .kept;
+          code = c .code;
+          timers = ts;
+        }
+
+    timers : {ts : List Bool} → Seven ts → Clauses (with-timers ts) → Situation (with-timers ts)
+    timers seven f = seen (c .state) (c .path) f

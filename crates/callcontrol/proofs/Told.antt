@@ -1,0 +1,113 @@
+-- What the lower layers were last told in a run is what the history rule reads from the taken events alone, and is the plane of the
+-- record. So a set transmits only in a call that is active, with its path up and with its identifier.
+use Prim.Native.Nat.{ℕ, _≤_}
+use mathlib.Core.Path.{_≡_, refl, sym, _∙_, ap}
+use mathlib.Core.Bool.{Bool, true, false, cond, _||_}
+use mathlib.Core.List.{List, [], _∷_, _++_}
+use mathlib.Core.Option.{Option, some}
+use native.Mathlib.Omega.{arith}
+use borrow.Author.Tests.{eqb-true, ne-eqb}
+use lib.Dec.{eqb}
+use lib.ListN.{length}
+use Rattle.records.specs.declared.events.Event.{Event}
+use Rattle.records.specs.Tables.{fine}
+use Rattle.records.specs.Events.{events}
+use Rattle.callcontrol.specs.declared.call.State.{State}
+use Rattle.callcontrol.specs.declared.call.Call.{Call}
+use Rattle.callcontrol.specs.declared.draft.Draft.{Draft}
+use Rattle.callcontrol.specs.Call.{freshCall, allStopped, inRange, asFresh, timersAgree, placesAgree, sound}
+use Rattle.callcontrol.specs.Rows.{rowFor}
+use Rattle.callcontrol.specs.Orders.{orders}
+use Rattle.callcontrol.specs.Step.{Outcome}
+use Rattle.callcontrol.specs.Runs.{Turn, outcome, next, run, takenBy, messagesOf, writtenBy, listed, takenIn, writtenIn, lastTold, told}
+use Rattle.callcontrol.specs.History.{History, atFirst, note, reads, planeByHistory}
+use Rattle.callcontrol.specs.Demands.{Sound, Told, Transmits}
+use Rattle.callcontrol.proofs.Reading.{read-fine}
+use Rattle.callcontrol.proofs.Answers.{Turned, kept, took, turned}
+use Rattle.callcontrol.proofs.Places.{plane-some, plane-on}
+use Rattle.callcontrol.proofs.Drawn.{Tells, silent, loud, lastTold-append, orders-tell}
+use Rattle.callcontrol.proofs.Follows.{Fits, Agrees, Lands, follows}
+
+-- a plane that is told is some plane, so that 0 stands for no CONFIGURE
+tells-plane : {was plane told : ℕ} → Tells was plane told → 1 ≤ plane → cond (eqb told 0) was told ≡ plane
+tells-plane (silent e) least = e
+tells-plane {plane} loud least = let other : eqb plane 0 ≡ false = ne-eqb plane 0 (λ e. omega arith) in rw other
+
+-- what a row tells is the plane that it leaves
+row-tells : {c : Call} {h : History} {d : Draft} → Lands c h d → 1 ≤ d .call .plane → lastTold (c .plane) (orders d) ≡ d .call .plane
+row-tells {c} {h} {d} l least = orders-tell (c .plane) d (l .pdu-plain) (l .user-plain) ∙ tells-plane (l .tells) least
+
+fits-plane : (s : State) (p m k : ℕ) (h : History) → Fits s p m k h → p ≡ h .plane
+fits-plane State.Idle p m k h f = f
+fits-plane State.MoCallSetup p m k h f = f .0
+fits-plane State.MtCallSetup p m k h f = f .0
+fits-plane State.CallActive p m k h f = f .0
+fits-plane State.Wait p m k h f = f .0
+fits-plane State.CallDisconnect p m k h f = f .0
+
+reads-append : (h : History) (a b : List Event) → reads h (a ++ b) ≡ reads (reads h a) b
+unfolding reads
+reads-append h [] b = refl
+reads-append h (e ∷ a) b = reads-append (note h e) a b
+
+-- what every record of a run meets
+abbrev pub Good : Call → Type 0
+Good c = (sound c ≡ true) × (length (c .timers) ≡ 7)
+
+fresh-good : Good freshCall
+unfolding sound inRange asFresh allStopped timersAgree placesAgree
+fresh-good = (refl, refl)
+
+-- every step from a good record gives a good one
+abbrev pub Keeps : Type 0
+Keeps = (c : Call) (e : Event) → length (c .timers) ≡ 7 → sound c ≡ true → fine events e ≡ true → rowFor c e .taken ≡ true → (sound (rowFor c e .call) ≡ true) × (length (rowFor c e .call .timers) ≡ 7)
+
+-- what a turn leaves
+record Left (c : Call) (h : History) (next : Call) (taken : Option Event) : Type 0 where
+  good : Good next
+  agrees : Agrees next (reads h (listed taken))
+  tells : lastTold (c .plane) (messagesOf c taken) ≡ next .plane
+
+next-is : (c : Call) (t : Turn) {o : Outcome} → outcome c t ≡ o → next c t ≡ o .call
+unfolding next
+next-is c t g = ap (λ o. o .call) g
+
+module _ (keeps : Keeps) where
+  row-left : (c : Call) (h : History) (e : Event) → Good c → Agrees c h → fine events e ≡ true → rowFor c e .taken ≡ true → Left c h (rowFor c e .call) (some e)
+  unfolding reads
+  row-left c h e good agrees fit row =
+      let l : Lands c (note h e) (rowFor c e) = follows c h (good .0) agrees e fit row in
+      let now : Good (rowFor c e .call) = keeps c e (good .1) (good .0) fit row in
+      record { good = now; agrees = l .agrees; tells = row-tells l (plane-some (rowFor c e .call) (now .0)) }
+
+  turn-left : (c : Call) (h : History) (t : Turn) → Good c → Agrees c h → Turned c t → Left c h (next c t) (takenBy c t)
+  unfolding reads lastTold
+  turn-left c h t good agrees (kept n z g k) = rw (next-is c t g, k) (record { good = good; agrees = agrees; tells = refl })
+  turn-left c h t good agrees (took e a) = rw (next-is c t (a .gives), a .takes) (row-left c h e good agrees (read-fine (t .event) e (a .reads)) (a .row))
+
+  run-tells : (ts : List Turn) (c : Call) (h : History) → Good c → Agrees c h → (lastTold (c .plane) (writtenIn c ts) ≡ run c ts .plane) × (run c ts .plane ≡ reads h (takenIn c ts) .plane)
+  unfolding run takenIn writtenIn writtenBy reads lastTold
+  run-tells [] c h good agrees = (refl, fits-plane (c .state) (c .plane) (c .mode) (c .kept) h agrees)
+  run-tells (t ∷ ts) c h good agrees =
+      let l : Left c h (next c t) (takenBy c t) = turn-left c h t good agrees (turned c t) in
+      let rest : (lastTold (next c t .plane) (writtenIn (next c t) ts) ≡ run (next c t) ts .plane) × (run (next c t) ts .plane ≡ reads (reads h (listed (takenBy c t))) (takenIn (next c t) ts) .plane)
+              = run-tells ts (next c t) (reads h (listed (takenBy c t))) (l .good) (l .agrees) in
+      ( lastTold-append (c .plane) (messagesOf c (takenBy c t)) (writtenIn (next c t) ts) ∙ ap (λ p. lastTold p (writtenIn (next c t) ts)) (l .tells) ∙ rest .0
+      , rest .1 ∙ ap (λ x. x .plane) (sym (reads-append h (listed (takenBy c t)) (takenIn (next c t) ts))))
+
+  pub told-by-history : Told
+  unfolding told planeByHistory
+  told-by-history ts =
+      let r : (lastTold 4 (writtenIn freshCall ts) ≡ run freshCall ts .plane) × (run freshCall ts .plane ≡ reads atFirst (takenIn freshCall ts) .plane)
+           = run-tells ts freshCall atFirst fresh-good refl in
+      (r .0 ∙ r .1, r .0)
+
+-- neither of the two planes that transmit is off
+transmitting : (p : ℕ) (one : Bool) → eqb p 1 ≡ one → (one || eqb p 3) ≡ true → eqb p 4 ≡ false
+transmitting p true e h = rw (eqb-true p 1 e)
+transmitting p false e h = rw (eqb-true p 3 h)
+
+pub transmits : Told → Sound → Transmits
+transmits by-history run-sound ts on =
+    let plane : told ts ≡ run freshCall ts .plane = by-history ts .1 in
+    plane-on (run freshCall ts) (run-sound ts) (rw plane at (transmitting (told ts) (eqb (told ts) 1) refl on))

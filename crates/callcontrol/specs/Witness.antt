@@ -1,0 +1,183 @@
+-- That the demands are not true for the wrong reason: calls that are set up, cut, restored and ended, event by event. Each line says what
+-- is handed in and what then shows; refused turns stand among the others and change nothing.
+use Prim.Native.Nat.{ℕ, zero, suc, _+_}
+use mathlib.Core.Path.{_≡_}
+use mathlib.Core.Bool.{Bool, true, false, cond, _&&_, _||_, Bool·beq}
+use mathlib.Core.List.{List, [], _∷_, _++_}
+use mathlib.Core.Option.{some}
+use lib.Dec.{eqb}
+use lib.ListN.{getD, take, drop}
+use Rattle.records.specs.declared.events.Event.{Event}
+use Rattle.records.specs.declared.events.Event.the-variants.{DCallRestore, Break}
+use Rattle.callcontrol.specs.declared.call.Call.{Call}
+use Rattle.callcontrol.specs.Call.{freshCall, stateNumber, pathNumber, _⇒_}
+use Rattle.callcontrol.specs.Step.{Outcome}
+use Rattle.callcontrol.specs.Runs.{Turn, outcome, next, run, takenBy, told, ends}
+use Rattle.callcontrol.specs.Demands.{quiet}
+
+-- 64 bytes are lent
+abbrev zeros : ℕ → List ℕ
+zeros zero = []
+zeros (suc n) = 0 ∷ zeros n
+
+abbrev pub turn : List ℕ → Turn
+turn event = record { event = event; buffer = zeros 64 }
+
+-- an event's bytes; then the answer, the state and the path of the record given back, what the lower layers were last told, and whether
+-- the call has ended
+pub record Line : Type 0 where
+  pub event : List ℕ
+  pub answer : ℕ
+  pub state : ℕ
+  pub path : ℕ
+  pub told : ℕ
+  pub ended : Bool
+
+abbrev pub line : List ℕ → ℕ → ℕ → ℕ → ℕ → Bool → Line
+line e a s p t z = record { event = e; answer = a; state = s; path = p; told = t; ended = z }
+
+-- a call from this side, simplex, with two breaks before it is restored
+abbrev pub outgoing : List Line
+outgoing =
+    -- SETUP request, REPORT sent, D-CONNECT: the plane goes on
+    line (10 ∷ 0 ∷ 1 ∷ 1 ∷ 7 ∷ 0 ∷ 0 ∷ 0 ∷ 0 ∷ 1 ∷ []) 0 1 0 4 false
+    ∷ line (4 ∷ 0 ∷ 1 ∷ 3 ∷ []) 0 1 0 4 false
+    ∷ line (9 ∷ 0 ∷ 3 ∷ 2 ∷ 21 ∷ 0 ∷ 0 ∷ 0 ∷ 3 ∷ []) 0 3 0 1 false
+    -- BREAK cuts it, and D-TX GRANTED does not bring it back
+    ∷ line (4 ∷ 0 ∷ 3 ∷ 3 ∷ []) 0 3 1 4 false
+    ∷ line (7 ∷ 0 ∷ 7 ∷ 2 ∷ 21 ∷ 0 ∷ 0 ∷ []) 6 3 1 4 false
+    -- RESUME, BREAK, RESUME
+    ∷ line (4 ∷ 0 ∷ 4 ∷ 3 ∷ []) 0 3 2 4 false
+    ∷ line (4 ∷ 0 ∷ 3 ∷ 3 ∷ []) 0 3 1 4 false
+    ∷ line (4 ∷ 0 ∷ 4 ∷ 3 ∷ []) 0 3 2 4 false
+    -- D-CALL RESTORE of another call, and of this one
+    ∷ line (9 ∷ 0 ∷ 12 ∷ 2 ∷ 22 ∷ 0 ∷ 0 ∷ 0 ∷ 16 ∷ []) 5 3 2 4 false
+    ∷ line (9 ∷ 0 ∷ 12 ∷ 2 ∷ 21 ∷ 0 ∷ 0 ∷ 0 ∷ 16 ∷ []) 0 3 0 1 false
+    -- bytes that are no record
+    ∷ line (4 ∷ 0 ∷ 3 ∷ []) 2 3 0 1 false
+    -- RELEASE request, REPORT sent, D-RELEASE: the call ends
+    ∷ line (4 ∷ 0 ∷ 3 ∷ 1 ∷ []) 0 5 0 4 false
+    ∷ line (4 ∷ 0 ∷ 1 ∷ 3 ∷ []) 0 5 0 4 false
+    ∷ line (6 ∷ 0 ∷ 14 ∷ 2 ∷ 21 ∷ 0 ∷ []) 0 0 0 4 true
+    ∷ []
+
+-- a call from the other side, duplex, that is cut in a pause
+abbrev pub incoming : List Line
+incoming =
+    -- D-SETUP, SETUP response, D-CONNECT ACKNOWLEDGE: the plane goes on
+    line (11 ∷ 0 ∷ 5 ∷ 2 ∷ 255 ∷ 63 ∷ 0 ∷ 0 ∷ 0 ∷ 0 ∷ 1 ∷ []) 0 2 0 4 false
+    ∷ line (4 ∷ 0 ∷ 2 ∷ 1 ∷ []) 0 2 0 4 false
+    ∷ line (8 ∷ 0 ∷ 4 ∷ 2 ∷ 255 ∷ 63 ∷ 0 ∷ 0 ∷ []) 0 3 0 3 false
+    -- D-TX WAIT, BREAK, RESUME, D-CALL RESTORE granted to another
+    ∷ line (6 ∷ 0 ∷ 10 ∷ 2 ∷ 255 ∷ 63 ∷ []) 0 4 0 4 false
+    ∷ line (4 ∷ 0 ∷ 3 ∷ 3 ∷ []) 0 3 1 4 false
+    ∷ line (4 ∷ 0 ∷ 4 ∷ 3 ∷ []) 0 3 2 4 false
+    ∷ line (9 ∷ 0 ∷ 12 ∷ 2 ∷ 255 ∷ 63 ∷ 3 ∷ 1 ∷ 5 ∷ []) 0 3 0 2 false
+    -- T310 expires and releases the call, T308 expires and ends it
+    ∷ line (6 ∷ 0 ∷ 1 ∷ 4 ∷ 54 ∷ 1 ∷ []) 0 5 0 4 false
+    ∷ line (6 ∷ 0 ∷ 1 ∷ 4 ∷ 52 ∷ 1 ∷ []) 0 0 0 4 true
+    ∷ []
+
+-- a call that the network ends while it is cut; REPORT failed has no row there
+abbrev pub lost : List Line
+lost =
+    line (11 ∷ 0 ∷ 5 ∷ 2 ∷ 9 ∷ 0 ∷ 7 ∷ 0 ∷ 0 ∷ 0 ∷ 0 ∷ []) 0 2 0 4 false
+    ∷ line (4 ∷ 0 ∷ 2 ∷ 1 ∷ []) 0 2 0 4 false
+    ∷ line (8 ∷ 0 ∷ 4 ∷ 2 ∷ 9 ∷ 0 ∷ 0 ∷ 0 ∷ []) 0 3 0 1 false
+    ∷ line (4 ∷ 0 ∷ 3 ∷ 3 ∷ []) 0 3 1 4 false
+    ∷ line (4 ∷ 0 ∷ 2 ∷ 3 ∷ []) 6 3 1 4 false
+    ∷ line (6 ∷ 0 ∷ 13 ∷ 2 ∷ 9 ∷ 0 ∷ []) 0 0 0 4 true
+    ∷ []
+
+-- two records are the same, by all their places
+unfoldable pub flags : List Bool → List ℕ
+flags [] = []
+flags (b ∷ bs) = cond b 1 0 ∷ flags bs
+
+unfoldable pub numbers : Call → List ℕ
+numbers c =
+    stateNumber (c .state) ∷ c .id ∷ c .address ∷ c .mode ∷ c .asked ∷ c .sent ∷ pathNumber (c .path) ∷ c .plane ∷ c .kept ∷ c .code ∷ flags (c .timers)
+
+unfoldable pub same : List ℕ → List ℕ → Bool
+same [] [] = true
+same [] (n ∷ ns) = false
+same (m ∷ ms) [] = false
+same (m ∷ ms) (n ∷ ns) = eqb m n && same ms ns
+
+-- what a line says of a turn, by the record before it, its outcome, and what was told; a refused turn gives the record back, and an end
+-- leaves the fresh one
+unfoldable pub agrees : Line → Call → Outcome → ℕ → Bool → Bool
+agrees l c o p z =
+    eqb (o .answer) (l .answer)
+    && eqb (stateNumber (o .call .state)) (l .state)
+    && eqb (pathNumber (o .call .path)) (l .path)
+    && eqb p (l .told)
+    && Bool·beq z (l .ended)
+    && (eqb (l .answer) 0 || same (numbers (o .call)) (numbers c))
+    && (l .ended ⇒ same (numbers (o .call)) (numbers freshCall))
+
+unfoldable pub goesSo : List Turn → List Line → Bool
+goesSo ts [] = true
+goesSo ts (l ∷ ls) =
+    agrees l (run freshCall ts) (outcome (run freshCall ts) (turn (l .event))) (told (ts ++ turn (l .event) ∷ [])) (ends (run freshCall ts) (turn (l .event)))
+    && goesSo (ts ++ turn (l .event) ∷ []) ls
+
+abbrev pub stories : List (List Line)
+stories = outgoing ∷ incoming ∷ lost ∷ []
+
+-- one story after the other
+abbrev pub allGoSo : List (List Line) → Bool
+allGoSo [] = true
+allGoSo (ls ∷ lss) = goesSo [] ls && allGoSo lss
+
+-- the turns of some lines
+abbrev pub turnsOf : List Line → List Turn
+turnsOf [] = []
+turnsOf (l ∷ ls) = turn (l .event) ∷ turnsOf ls
+
+-- a story cut in pieces: some turns, a BREAK, some more turns, and a D-CALL RESTORE
+pub record Cutting : Type 0 where
+  pub turns : List Turn
+  pub before : ℕ
+  pub between : ℕ
+  pub restoration : Event
+
+abbrev pub cutting : List Line → ℕ → ℕ → Event → Cutting
+cutting ls n m e = record { turns = turnsOf ls; before = n; between = m; restoration = e }
+
+abbrev pub beforeOf : Cutting → List Turn
+beforeOf x = take (x .before) (x .turns)
+
+abbrev pub breakOf : Cutting → Turn
+breakOf x = getD (x .turns) (x .before) (turn [])
+
+abbrev pub betweenOf : Cutting → List Turn
+betweenOf x = take (x .between) (drop (x .before + 1) (x .turns))
+
+abbrev pub restoringOf : Cutting → Turn
+restoringOf x = getD (x .turns) (x .before + 1 + x .between) (turn [])
+
+-- the premises of Cut and Restored
+abbrev pub Premises : Cutting → Type 0
+Premises x =
+    (takenBy (run freshCall (beforeOf x)) (breakOf x) ≡ some Break)
+    × (quiet (run freshCall (beforeOf x) .id) (next (run freshCall (beforeOf x)) (breakOf x)) (betweenOf x) ≡ true)
+    × (takenBy (run freshCall (beforeOf x ++ breakOf x ∷ betweenOf x)) (restoringOf x) ≡ some (x .restoration))
+
+-- the first break of the outgoing call, with another break and two refused turns before the restoration; its second break; and the break
+-- in a pause
+abbrev pub cuttings : List Cutting
+cuttings =
+    cutting outgoing 3 5 (DCallRestore 21 0 0 16)
+    ∷ cutting outgoing 6 2 (DCallRestore 21 0 0 16)
+    ∷ cutting incoming 4 1 (DCallRestore 16383 3 1 5)
+    ∷ []
+
+-- of each in a list
+abbrev pub Each : {A : Type 0} → (A → Type 0) → List A → Type 0
+Each P [] = Unit {0}
+Each P (x ∷ xs) = P x × Each P xs
+
+pub record Witness : Type 0 where
+  pub lines : allGoSo stories ≡ true
+  pub cuts : Each Premises cuttings
