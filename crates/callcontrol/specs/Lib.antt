@@ -6,3 +6,5 @@ pub mod Step
 pub mod Runs
 pub mod History
 pub mod Demands
+pub mod Examples
+pub mod WrongSteps

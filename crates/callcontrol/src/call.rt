@@ -51,7 +51,7 @@ pub struct Call {
     pub timers: [bool; 7],
 }
 
-fn state_number(state: State) -> u8
+pub fn state_number(state: State) -> u8
     ensures { λ r. ⌜ r ≡ stateNumber state ⌝ }
 {
     match state {
@@ -64,7 +64,7 @@ fn state_number(state: State) -> u8
     }
 }
 
-fn path_number(path: Path) -> u8
+pub fn path_number(path: Path) -> u8
     ensures { λ r. ⌜ r ≡ pathNumber path ⌝ }
 {
     match path {
