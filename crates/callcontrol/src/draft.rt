@@ -103,7 +103,7 @@ impl Draft {
             state,
             id: c.id,
             address: c.address,
-            mode: c.mode,
+            mode: c.mode, // a cut and a restoration keep the mode
             asked: c.asked,
             sent: c.sent,
             path,

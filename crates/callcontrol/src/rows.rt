@@ -107,7 +107,7 @@ fn mo_call_setup(call: Call, event: Event) -> Draft
         // 14.5.1.1.2
         Event::DCallProceeding { id } => Draft::new(call)
             .store_id(id)
-            .store_sent(1)
+            .store_sent(1) // an identifier came: no local cancel from here on
             .stop(T303)
             .start(T302)
             .tell(Message::Proceed),
@@ -232,7 +232,7 @@ fn cut(call: Call) -> Draft
 {
     let asked = call.asked;
     if call.plane == 1 {
-        return Draft::new(call).store_asked(1).on_path(Path::Broken).off();
+        return Draft::new(call).store_asked(1).on_path(Path::Broken).off(); // a transmission is cut
     }
     if call.plane == 3 {
         return Draft::new(call).store_asked(1).on_path(Path::Broken).off();
@@ -349,7 +349,7 @@ fn active_restoring(call: Call, event: Event) -> Draft
             .stop(T306)
             .on_path(Path::Up)
             .grant(grant)
-            .restart(reset, code)
+            .restart(reset, code) // r 0 leaves T310 as it is
             .tell(Message::TxIndication { told: grant }),
         Event::DDisconnect { id } => disconnected(id, call),
         Event::DRelease { id: _ } => released(call),
