@@ -78,11 +78,11 @@ fresh = record { by = []; is = isIdle }
 -- MO-CALL-SETUP with T303 alone running
 abbrev pub moCallSetup : Place
 moCallSetup =
-    record
-    { by = setupRequest ∷ []
-    ; is =
+    record {
+      by = setupRequest ∷ [];
+      is =
           λ c. eqb (stateNumber (c .state)) 1 && runs c T303
-          && not (runs c T301 || runs c T302 || runs c T306 || runs c T308 || runs c T310 || runs c T311)
+          && not (runs c T301 || runs c T302 || runs c T306 || runs c T308 || runs c T310 || runs c T311);
     }
 
 -- MT-CALL-SETUP before the response, which starts T301
@@ -92,9 +92,9 @@ mtCallSetup = record { by = dSetup21 ∷ []; is = λ c. eqb (stateNumber (c .sta
 -- simplex, plane 1, i 21, asked 0
 abbrev pub speaking : Place
 speaking =
-    record
-    { by = setupRequest ∷ dConnect ∷ []
-    ; is = λ c. eqb (c .mode) 0 && eqb (c .plane) 1 && eqb (c .id) 21 && eqb (c .asked) 0
+    record {
+      by = setupRequest ∷ dConnect ∷ [];
+      is = λ c. eqb (c .mode) 0 && eqb (c .plane) 1 && eqb (c .id) 21 && eqb (c .asked) 0;
     }
 
 -- what the last event of an example gives

@@ -25,11 +25,11 @@ refusesAll n c event buffer = refusal n c buffer
 -- has a single answer
 abbrev pub singleAnswer : ℕ → Step
 singleAnswer n c event buffer =
-    record
-    { answer = n
-    ; call = stepOf c event buffer .call
-    ; count = stepOf c event buffer .count
-    ; buffer = stepOf c event buffer .buffer
+    record {
+      answer = n;
+      call = stepOf c event buffer .call;
+      count = stepOf c event buffer .count;
+      buffer = stepOf c event buffer .buffer;
     }
 
 -- returns its record and writes nothing
@@ -43,9 +43,9 @@ firstOnly c event buffer = cond (isIdle c) (stepOf c event buffer) (record { ans
 -- invents a count: one more than what was written
 abbrev pub countsMore : Step
 countsMore c event buffer =
-    record
-    { answer = stepOf c event buffer .answer
-    ; call = stepOf c event buffer .call
-    ; count = cond (eqb (stepOf c event buffer .answer) 0) (stepOf c event buffer .count + 1) 0
-    ; buffer = stepOf c event buffer .buffer
+    record {
+      answer = stepOf c event buffer .answer;
+      call = stepOf c event buffer .call;
+      count = cond (eqb (stepOf c event buffer .answer) 0) (stepOf c event buffer .count + 1) 0;
+      buffer = stepOf c event buffer .buffer;
     }
