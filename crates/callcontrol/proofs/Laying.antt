@@ -42,7 +42,7 @@ lay-fits (m ∷ ms) at b h =
     let n = length-append (messageBytes m) (bytesOf ms) in
     let here : at + length (messageBytes m) ≤ length b = omega (arith, n) in
     let later : at + length (messageBytes m) + length (bytesOf ms) ≤ length (sets b at (messageBytes m)) =
-            omega (arith, n, length-sets b at (messageBytes m)) in
+    omega (arith, n, length-sets b at (messageBytes m)) in
     let sum : at + length (messageBytes m) + length (bytesOf ms) ≡ at + length (messageBytes m ++ bytesOf ms) = omega (arith, n) in
     rw (le-leb _ _ here)
     (lay-fits ms (at + length (messageBytes m)) (sets b at (messageBytes m)) later
@@ -76,7 +76,7 @@ pub size-byNumber : (order : ℕ → Message) (flags : List Bool) (n : ℕ) → 
 unfolding byNumber countOf
 size-byNumber order flags n e =
     let w : (k p : ℕ) → length (bytesOf (when (getD flags p false) (order k))) ≡ n * cond (getD flags p false) 1 0 =
-            λ k p. size-when (getD flags p false) (order k) n (e k) in
+    λ k p. size-when (getD flags p false) (order k) n (e k) in
     simp (size-append, mul-add)
     (omega (arith, w 301 T301, w 302 T302, w 303 T303, w 306 T306, w 308 T308, w 310 T310, w 311 T311))
 
@@ -114,7 +114,7 @@ unfolding orders messageSize flatSize starting
 size-orders d =
     let cancel : length (bytesOf (when (d .cancel) Message.Cancel)) ≡ cond (d .cancel) 4 0 = whole (d .cancel) Message.Cancel 4 refl in
     let plane : length (bytesOf (when (not (eqb (d .told) 0)) (Message.Configure (d .told)))) ≡ cond (not (eqb (d .told) 0)) 5 0 =
-            whole (not (eqb (d .told) 0)) (Message.Configure (d .told)) 5 refl in
+    whole (not (eqb (d .told) 0)) (Message.Configure (d .told)) 5 refl in
     simp size-append
     (omega
     (arith, cancel, plane, size-byNumber Message.Stop (d .stops) 6 (λ k. refl), size-byNumber (starting (d .call .code)) (d .starts) 7 (λ k. refl)))

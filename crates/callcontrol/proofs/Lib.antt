@@ -2,8 +2,10 @@ pub mod Answers
 pub mod Carried
 pub mod Cut
 pub mod Demands
+pub mod Determined
 pub mod Drawn
 pub mod Ended
+pub mod Examples
 pub mod Follows
 pub mod Laying
 pub mod Places
@@ -16,3 +18,4 @@ pub mod Told
 pub mod Turns
 pub mod Verbs
 pub mod Witness
+pub mod WrongSteps

@@ -40,18 +40,18 @@ runs call k = getD (call .timers) k false
 
 abbrev pub freshCall : Call
 freshCall =
-    record
-    { state = State.Idle
-    ; id = 0
-    ; address = 0
-    ; mode = 0
-    ; asked = 0
-    ; sent = 0
-    ; path = Path.Up
-    ; plane = 4
-    ; kept = 4
-    ; code = 0
-    ; timers = none
+    record {
+      state = State.Idle;
+      id = 0;
+      address = 0;
+      mode = 0;
+      asked = 0;
+      sent = 0;
+      path = Path.Up;
+      plane = 4;
+      kept = 4;
+      code = 0;
+      timers = none;
     }
 
 -- the states and paths as numbers, those of a host's record
@@ -82,7 +82,6 @@ abbrev pub _⇒_ : Bool → Bool → Bool
 a ⇒ b = not a || b
 
 infixr 25 _⇒_
-
 -- none of the seven runs
 unfoldable pub allStopped : Call → Bool
 allStopped call =

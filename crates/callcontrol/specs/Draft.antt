@@ -14,7 +14,6 @@ use Rattle.callcontrol.specs.Call.{freshCall, none, runs, T301, T302, T3
 
 -- a row is read from left to right: a draft, and then what is done to it
 infixl 20 _▷_
-
 abbrev pub _▷_ : {A B : Type 0} → A → (A → B) → B
 a ▷ f = f a
 
@@ -95,10 +94,16 @@ keep p d =
 -- STOP is written only for a running timer
 unfoldable pub stop : ℕ → Draft → Draft
 stop k d =
-    record
-    { call = timersOf d (set (d .call .timers) k false)
-    ; stops = set (d .stops) k (runs (d .call) k || getD (d .stops) k false)
-    ; starts = d .starts; cancel = d .cancel; pdu = d .pdu; told = d .told; user = d .user; taken = d .taken }
+    record {
+      call = timersOf d (set (d .call .timers) k false);
+      stops = set (d .stops) k (runs (d .call) k || getD (d .stops) k false);
+      starts = d .starts;
+      cancel = d .cancel;
+      pdu = d .pdu;
+      told = d .told;
+      user = d .user;
+      taken = d .taken;
+    }
 
 unfoldable pub stopAll : Draft → Draft
 stopAll d = d ▷ stop T301 ▷ stop T302 ▷ stop T303 ▷ stop T306 ▷ stop T308 ▷ stop T310 ▷ stop T311
@@ -106,11 +111,16 @@ stopAll d = d ▷ stop T301 ▷ stop T302 ▷ stop T303 ▷ stop T306 ▷ stop T
 -- starting a running timer writes START only, also in a row that says stop all
 unfoldable pub start : ℕ → Draft → Draft
 start k d =
-    record
-    { call = timersOf d (set (d .call .timers) k true)
-    ; stops = set (d .stops) k false
-    ; starts = set (d .starts) k true
-    ; cancel = d .cancel; pdu = d .pdu; told = d .told; user = d .user; taken = d .taken }
+    record {
+      call = timersOf d (set (d .call .timers) k true);
+      stops = set (d .stops) k false;
+      starts = set (d .starts) k true;
+      cancel = d .cancel;
+      pdu = d .pdu;
+      told = d .told;
+      user = d .user;
+      taken = d .taken;
+    }
 
 -- an expired timer gets no STOP
 unfoldable pub expired : ℕ → Draft → Draft

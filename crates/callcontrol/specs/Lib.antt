@@ -3,6 +3,8 @@ pub mod Draft
 pub mod Rows
 pub mod Orders
 pub mod Step
+pub mod Examples
+pub mod WrongSteps
 pub mod Runs
 pub mod History
 pub mod Demands

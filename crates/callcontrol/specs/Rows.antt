@@ -39,7 +39,7 @@ expiry n c =
 
 -- IDLE
 unfoldable pub idle : Call → Event → Draft
-  -- 14.5.1.1.2
+-- 14.5.1.1.2
 idle c (SetupRequest a d q) = draft c ▷ go State.MoCallSetup ▷ storeAddress a ▷ storeMode d ▷ storeAsked q ▷ say (USetup a d q) ▷ start T303
 idle c SetupResponse = noRow c
 idle c ReleaseRequest = noRow c
@@ -49,7 +49,7 @@ idle c (DCallProceeding i) = noRow c
 idle c (DAlert i) = noRow c
 idle c (DConnect i g d o) = noRow c
 idle c (DConnectAcknowledge i g o) = noRow c
-  -- 14.5.1.1.1
+-- 14.5.1.1.1
 idle c (DSetup i a d) = draft c ▷ go State.MtCallSetup ▷ storeId i ▷ storeAddress a ▷ storeMode d ▷ tell (SetupIndication i a d)
 idle c (DInfo i r o d) = noRow c
 idle c (DTxGranted i g) = noRow c
@@ -70,15 +70,15 @@ idle c (Expiry n) = noRow c
 unfoldable pub moCallSetup : Call → Event → Draft
 moCallSetup c (SetupRequest a d q) = noRow c
 moCallSetup c SetupResponse = noRow c
-  -- 14.5.1.3.1
+-- 14.5.1.3.1
 moCallSetup c ReleaseRequest = cond (eqb (c .sent) 0) (draft c ▷ cancel ▷ stop T303 ▷ tell ReleaseConfirm ▷ over) (releasing c)
 moCallSetup c (TxRequest k) = noRow c
 moCallSetup c (ModifyRequest d) = noRow c
-  -- 14.5.1.1.2
+-- 14.5.1.1.2
 moCallSetup c (DCallProceeding i) = draft c ▷ storeId i ▷ storeSent 1 ▷ stop T303 ▷ start T302 ▷ tell Proceed
-  -- 14.5.1.1.2
+-- 14.5.1.1.2
 moCallSetup c (DAlert i) = draft c ▷ storeId i ▷ storeSent 1 ▷ stop T303 ▷ start T302 ▷ tell Alert
-  -- 14.5.1.1.2
+-- 14.5.1.1.2
 moCallSetup c (DConnect i g d o) =
     draft c
     ▷ storeId i
@@ -100,32 +100,32 @@ moCallSetup c (DTxInterrupt i g) = noRow c
 moCallSetup c (DTxWait i) = noRow c
 moCallSetup c (DTxContinue i k) = noRow c
 moCallSetup c (DCallRestore i g r o) = noRow c
-  -- 14.5.1.3.2
+-- 14.5.1.3.2
 moCallSetup c (DDisconnect i) = disconnected i c
-  -- 14.5.1.3.2
+-- 14.5.1.3.2
 moCallSetup c (DRelease i) = released c
-  -- 14.5.1.1.2
+-- 14.5.1.1.2
 moCallSetup c ReportSent = cond (eqb (c .sent) 0) (draft c ▷ storeSent 1) (noRow c)
-  -- H
+-- H
 moCallSetup c ReportFailed = cond (eqb (c .sent) 0) (draft c ▷ stop T303 ▷ tell (ReleaseIndication 4) ▷ over) (noRow c)
 moCallSetup c Break = noRow c
 moCallSetup c Resume = noRow c
-  -- 14.5.1.3.3; T306 H
+-- 14.5.1.3.3; T306 H
 moCallSetup c (Expiry n) = expiry n c
 
 -- MT-CALL-SETUP
 unfoldable pub mtCallSetup : Call → Event → Draft
 mtCallSetup c (SetupRequest a d q) = noRow c
-  -- 14.5.1.1.1
+-- 14.5.1.1.1
 mtCallSetup c SetupResponse = cond (runs c T301) (noRow c) (draft c ▷ say (UConnect (c .id)) ▷ start T301)
-  -- 14.5.1.3.1
+-- 14.5.1.3.1
 mtCallSetup c ReleaseRequest = releasing c
 mtCallSetup c (TxRequest k) = noRow c
 mtCallSetup c (ModifyRequest d) = noRow c
 mtCallSetup c (DCallProceeding i) = noRow c
 mtCallSetup c (DAlert i) = noRow c
 mtCallSetup c (DConnect i g d o) = noRow c
-  -- 14.5.1.1.1
+-- 14.5.1.1.1
 mtCallSetup c (DConnectAcknowledge i g o) =
     cond (runs c T301)
     (draft c ▷ storeCode o ▷ go State.CallActive ▷ stop T301 ▷ start T310 ▷ grantOrOff g ▷ tell (Complete g))
@@ -138,15 +138,15 @@ mtCallSetup c (DTxInterrupt i g) = noRow c
 mtCallSetup c (DTxWait i) = noRow c
 mtCallSetup c (DTxContinue i k) = noRow c
 mtCallSetup c (DCallRestore i g r o) = noRow c
-  -- 14.5.1.3.2
+-- 14.5.1.3.2
 mtCallSetup c (DDisconnect i) = disconnected i c
-  -- 14.5.1.3.2
+-- 14.5.1.3.2
 mtCallSetup c (DRelease i) = released c
 mtCallSetup c ReportSent = noRow c
 mtCallSetup c ReportFailed = noRow c
 mtCallSetup c Break = noRow c
 mtCallSetup c Resume = noRow c
-  -- 14.5.1.3.3; T306 H
+-- 14.5.1.3.3; T306 H
 mtCallSetup c (Expiry n) = expiry n c
 
 -- the user wants to transmit, or stops, with path up (14.5.1.2.1)
@@ -187,11 +187,11 @@ activeExpiry n c =
 unfoldable pub activeUp : Call → Event → Draft
 activeUp c (SetupRequest a d q) = noRow c
 activeUp c SetupResponse = noRow c
-  -- 14.5.1.3.1
+-- 14.5.1.3.1
 activeUp c ReleaseRequest = releasing c
-  -- 14.5.1.2.1
+-- 14.5.1.2.1
 activeUp c (TxRequest k) = cond (eqb k 1) (demands c) (ceases c)
-  -- 14.5.1.2.3
+-- 14.5.1.2.3
 activeUp c (ModifyRequest d) = draft c ▷ say (UInfo (c .id) d)
 activeUp c (DCallProceeding i) = noRow c
 activeUp c (DAlert i) = noRow c
@@ -199,19 +199,19 @@ activeUp c (DConnect i g d o) = noRow c
 activeUp c (DConnectAcknowledge i g o) = noRow c
 activeUp c (DSetup i a d) = noRow c
 activeUp c (DInfo i r o d) = informed r o d c
-  -- 14.5.1.2.1
+-- 14.5.1.2.1
 activeUp c (DTxGranted i g) = draft c ▷ grant g ▷ tell (TxIndication g)
-  -- 14.5.1.2.1
+-- 14.5.1.2.1
 activeUp c (DTxCeased i) = draft c ▷ off ▷ tell (TxIndication 4)
-  -- 14.5.1.2.1
+-- 14.5.1.2.1
 activeUp c (DTxInterrupt i g) = draft c ▷ plane (cond (eqb g 3) 2 4) ▷ tell (TxIndication 5)
-  -- 14.5.1.2.1
+-- 14.5.1.2.1
 activeUp c (DTxWait i) = draft c ▷ go State.Wait ▷ keep (c .plane) ▷ off ▷ tell (TxIndication 6)
 activeUp c (DTxContinue i k) = noRow c
 activeUp c (DCallRestore i g r o) = noRow c
-  -- 14.5.1.3.2
+-- 14.5.1.3.2
 activeUp c (DDisconnect i) = disconnected i c
-  -- 14.5.1.3.2
+-- 14.5.1.3.2
 activeUp c (DRelease i) = released c
 activeUp c ReportSent = noRow c
 activeUp c ReportFailed = noRow c
@@ -227,9 +227,9 @@ asks c = cond (eqb (c .asked) 1 || eqb (c .mode) 1) 1 0
 unfoldable pub activeBroken : Call → Event → Draft
 activeBroken c (SetupRequest a d q) = noRow c
 activeBroken c SetupResponse = noRow c
-  -- 14.5.1.3.1
+-- 14.5.1.3.1
 activeBroken c ReleaseRequest = releasing c
-  -- 14.5.1.2.2
+-- 14.5.1.2.2
 activeBroken c (TxRequest k) = cond (eqb (c .asked) k) (noRow c) (draft c ▷ storeAsked k)
 activeBroken c (ModifyRequest d) = noRow c
 activeBroken c (DCallProceeding i) = noRow c
@@ -244,28 +244,28 @@ activeBroken c (DTxInterrupt i g) = noRow c
 activeBroken c (DTxWait i) = noRow c
 activeBroken c (DTxContinue i k) = noRow c
 activeBroken c (DCallRestore i g r o) = noRow c
-  -- 14.5.1.3.2
+-- 14.5.1.3.2
 activeBroken c (DDisconnect i) = disconnected i c
-  -- 14.5.1.3.2
+-- 14.5.1.3.2
 activeBroken c (DRelease i) = released c
 activeBroken c ReportSent = noRow c
 activeBroken c ReportFailed = noRow c
 activeBroken c Break = noRow c
-  -- 14.5.1.2.2
+-- 14.5.1.2.2
 activeBroken c Resume =
     draft c
     ▷ storeAsked (asks c)
     ▷ onPath Path.Restoring
     ▷ say (UCallRestore (c .id) (c .address) (asks c))
     ▷ start T306
-  -- 14.5.1.3.3; T306 H
+-- 14.5.1.3.3; T306 H
 activeBroken c (Expiry n) = expiry n c
 
 -- CALL-ACTIVE, restoring
 unfoldable pub activeRestoring : Call → Event → Draft
 activeRestoring c (SetupRequest a d q) = noRow c
 activeRestoring c SetupResponse = noRow c
-  -- 14.5.1.3.1
+-- 14.5.1.3.1
 activeRestoring c ReleaseRequest = releasing c
 activeRestoring c (TxRequest k) = noRow c
 activeRestoring c (ModifyRequest d) = noRow c
@@ -280,25 +280,25 @@ activeRestoring c (DTxCeased i) = noRow c
 activeRestoring c (DTxInterrupt i g) = noRow c
 activeRestoring c (DTxWait i) = noRow c
 activeRestoring c (DTxContinue i k) = noRow c
-  -- 14.5.1.2.2
+-- 14.5.1.2.2
 activeRestoring c (DCallRestore i g r o) = draft c ▷ stop T306 ▷ onPath Path.Up ▷ grant g ▷ restart r o ▷ tell (TxIndication g)
-  -- 14.5.1.3.2
+-- 14.5.1.3.2
 activeRestoring c (DDisconnect i) = disconnected i c
-  -- 14.5.1.3.2
+-- 14.5.1.3.2
 activeRestoring c (DRelease i) = released c
 activeRestoring c ReportSent = noRow c
 activeRestoring c ReportFailed = noRow c
-  -- 14.5.1.2.2
+-- 14.5.1.2.2
 activeRestoring c Break = draft c ▷ stop T306 ▷ onPath Path.Broken ▷ off
 activeRestoring c Resume = noRow c
-  -- 14.5.1.3.3; T306 H
+-- 14.5.1.3.3; T306 H
 activeRestoring c (Expiry n) = expiry n c
 
 -- WAIT
 unfoldable pub wait : Call → Event → Draft
 wait c (SetupRequest a d q) = noRow c
 wait c SetupResponse = noRow c
-  -- 14.5.1.3.1
+-- 14.5.1.3.1
 wait c ReleaseRequest = releasing c
 wait c (TxRequest k) = noRow c
 wait c (ModifyRequest d) = noRow c
@@ -312,22 +312,22 @@ wait c (DTxGranted i g) = noRow c
 wait c (DTxCeased i) = noRow c
 wait c (DTxInterrupt i g) = noRow c
 wait c (DTxWait i) = noRow c
-  -- 14.5.1.2.1
+-- 14.5.1.2.1
 wait c (DTxContinue i k) =
     cond (eqb k 1)
     (draft c ▷ go State.CallActive ▷ plane (c .kept) ▷ tell (TxIndication 7))
     (draft c ▷ go State.CallActive ▷ off ▷ tell (TxIndication 8))
 wait c (DCallRestore i g r o) = noRow c
-  -- 14.5.1.3.2
+-- 14.5.1.3.2
 wait c (DDisconnect i) = disconnected i c
-  -- 14.5.1.3.2
+-- 14.5.1.3.2
 wait c (DRelease i) = released c
 wait c ReportSent = noRow c
 wait c ReportFailed = noRow c
-  -- 14.5.1.2.2
+-- 14.5.1.2.2
 wait c Break = draft c ▷ go State.CallActive ▷ onPath Path.Broken ▷ off ▷ tell (TxIndication 8)
 wait c Resume = noRow c
-  -- 14.5.1.3.3; T306 H
+-- 14.5.1.3.3; T306 H
 wait c (Expiry n) = expiry n c
 
 -- the end that this side asked for
@@ -353,17 +353,17 @@ callDisconnect c (DTxInterrupt i g) = noRow c
 callDisconnect c (DTxWait i) = noRow c
 callDisconnect c (DTxContinue i k) = noRow c
 callDisconnect c (DCallRestore i g r o) = noRow c
-  -- 14.5.1.3.2
+-- 14.5.1.3.2
 callDisconnect c (DDisconnect i) = cond (eqb (c .sent) 0) (disconnected i c ▷ cancel) (disconnected i c)
-  -- 14.5.1.3.2
+-- 14.5.1.3.2
 callDisconnect c (DRelease i) = cond (eqb (c .sent) 0) (released c ▷ cancel) (draft c ▷ confirmed)
-  -- 14.5.1.3.1
+-- 14.5.1.3.1
 callDisconnect c ReportSent = cond (eqb (c .sent) 0) (draft c ▷ storeSent 1) (noRow c)
-  -- 14.5.1.3.4
+-- 14.5.1.3.4
 callDisconnect c ReportFailed = cond (eqb (c .sent) 0) (draft c ▷ confirmed) (noRow c)
 callDisconnect c Break = noRow c
 callDisconnect c Resume = noRow c
-  -- 14.5.1.3.4
+-- 14.5.1.3.4
 callDisconnect c (Expiry n) = cond (eqb n 308 && runs c T308) (draft c ▷ expired T308 ▷ confirmed) (noRow c)
 
 -- CALL-ACTIVE, by its path

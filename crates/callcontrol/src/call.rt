@@ -90,8 +90,11 @@ fn may_lack_id(state: State) -> bool
 
 impl Call {
     pub const ID_MOST: u16 = 16383;
+
     pub const ADDRESS_MOST: u32 = 16777215;
+
     pub const CODE_MOST: u8 = 15;
+
     pub const OFF: u8 = 4;
 
     // No call.
@@ -187,6 +190,9 @@ impl Call {
     pub fn sound(self) -> bool
         ensures { λ r. ⌜ r ≡ sound self ⌝ }
     {
-        self.in_range() & (!self.is_idle() | self.as_fresh()) & self.timers_agree() & self.places_agree()
+        self.in_range()
+            & (!self.is_idle() | self.as_fresh())
+            & self.timers_agree()
+            & self.places_agree()
     }
 }

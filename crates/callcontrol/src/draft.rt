@@ -29,11 +29,17 @@ pub struct Draft {
 
 // The places of the timers in a record's array.
 pub const T301: usize = 0;
+
 pub const T302: usize = 1;
+
 pub const T303: usize = 2;
+
 pub const T306: usize = 3;
+
 pub const T308: usize = 4;
+
 pub const T310: usize = 5;
+
 pub const T311: usize = 6;
 
 impl Draft {
@@ -103,7 +109,7 @@ impl Draft {
             state,
             id: c.id,
             address: c.address,
-            mode: c.mode,
+            mode: c.mode, // a cut and a restoration keep the mode
             asked: c.asked,
             sent: c.sent,
             path,
@@ -199,7 +205,13 @@ impl Draft {
     pub fn stop_all(self) -> Self
         ensures { λ r. ⌜ r ≡ stopAll self ⌝ }
     {
-        self.stop(T301).stop(T302).stop(T303).stop(T306).stop(T308).stop(T310).stop(T311)
+        self.stop(T301)
+            .stop(T302)
+            .stop(T303)
+            .stop(T306)
+            .stop(T308)
+            .stop(T310)
+            .stop(T311)
     }
 
     // Starting a running timer writes START only, also in a row that says stop all.

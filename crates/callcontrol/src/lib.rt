@@ -1,6 +1,6 @@
 // Call control of one individual TETRA call: the call record, the rows of the paper, and the step.
 pub mod call;
 mod draft;
-mod rows;
 mod orders;
+mod rows;
 pub mod step;

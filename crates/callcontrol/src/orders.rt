@@ -65,13 +65,61 @@ fn lay_stops(flags: [bool; 7], buffer: &mut [u8], at: usize) -> usize
 fn lay_starts(flags: [bool; 7], code: u8, buffer: &mut [u8], at: usize) -> usize
     ensures { λ r. ⌜ Laid (now (buffer .entry)) at (byNumber (starting code) flags) r (now (buffer .exit)) ⌝ }
 {
-    let at = lay_when(flags[0], Message::Start { timer: 301, code: 0 }, buffer, at);
-    let at = lay_when(flags[1], Message::Start { timer: 302, code: 0 }, buffer, at);
-    let at = lay_when(flags[2], Message::Start { timer: 303, code: 0 }, buffer, at);
-    let at = lay_when(flags[3], Message::Start { timer: 306, code: 0 }, buffer, at);
-    let at = lay_when(flags[4], Message::Start { timer: 308, code: 0 }, buffer, at);
+    let at = lay_when(
+        flags[0],
+        Message::Start {
+            timer: 301,
+            code: 0,
+        },
+        buffer,
+        at,
+    );
+    let at = lay_when(
+        flags[1],
+        Message::Start {
+            timer: 302,
+            code: 0,
+        },
+        buffer,
+        at,
+    );
+    let at = lay_when(
+        flags[2],
+        Message::Start {
+            timer: 303,
+            code: 0,
+        },
+        buffer,
+        at,
+    );
+    let at = lay_when(
+        flags[3],
+        Message::Start {
+            timer: 306,
+            code: 0,
+        },
+        buffer,
+        at,
+    );
+    let at = lay_when(
+        flags[4],
+        Message::Start {
+            timer: 308,
+            code: 0,
+        },
+        buffer,
+        at,
+    );
     let at = lay_when(flags[5], Message::Start { timer: 310, code }, buffer, at);
-    lay_when(flags[6], Message::Start { timer: 311, code: 0 }, buffer, at)
+    lay_when(
+        flags[6],
+        Message::Start {
+            timer: 311,
+            code: 0,
+        },
+        buffer,
+        at,
+    )
 }
 
 // STOPs by rising number, CANCEL, U-PDU, STARTs by rising number, CONFIGURE, user primitive.

@@ -30,7 +30,11 @@ fn releasing(call: Call) -> Draft
 fn released(call: Call) -> Draft
     ensures { λ r. ⌜ r ≡ released call ⌝ }
 {
-    Draft::new(call).stop_all().off().tell(Message::ReleaseIndication { cause: 3 }).over()
+    Draft::new(call)
+        .stop_all()
+        .off()
+        .tell(Message::ReleaseIndication { cause: 3 })
+        .over()
 }
 
 // The network ends the call and wants U-RELEASE with the received identifier (14.5.1.3.2).
@@ -52,7 +56,10 @@ fn timed_out(k: usize, call: Call) -> Draft
 {
     let timers = call.timers;
     if timers[k] {
-        return Draft::new(call).expired(k).release(2).tell(Message::ReleaseIndication { cause: 2 });
+        return Draft::new(call)
+            .expired(k)
+            .release(2)
+            .tell(Message::ReleaseIndication { cause: 2 });
     }
     Draft::no_row(call)
 }
@@ -100,14 +107,18 @@ fn mo_call_setup(call: Call, event: Event) -> Draft
         // 14.5.1.3.1
         Event::ReleaseRequest => {
             if call.sent == 0 {
-                return Draft::new(call).cancel().stop(T303).tell(Message::ReleaseConfirm).over();
+                return Draft::new(call)
+                    .cancel()
+                    .stop(T303)
+                    .tell(Message::ReleaseConfirm)
+                    .over();
             }
             releasing(call)
         }
         // 14.5.1.1.2
         Event::DCallProceeding { id } => Draft::new(call)
             .store_id(id)
-            .store_sent(1)
+            .store_sent(1) // an identifier came: no local cancel from here on
             .stop(T303)
             .start(T302)
             .tell(Message::Proceed),
@@ -119,7 +130,12 @@ fn mo_call_setup(call: Call, event: Event) -> Draft
             .start(T302)
             .tell(Message::Alert),
         // 14.5.1.1.2
-        Event::DConnect { id, grant, mode, code } => Draft::new(call)
+        Event::DConnect {
+            id,
+            grant,
+            mode,
+            code,
+        } => Draft::new(call)
             .store_id(id)
             .store_mode(mode)
             .store_code(code)
@@ -142,7 +158,10 @@ fn mo_call_setup(call: Call, event: Event) -> Draft
         // H
         Event::ReportFailed => {
             if call.sent == 0 {
-                return Draft::new(call).stop(T303).tell(Message::ReleaseIndication { cause: 4 }).over();
+                return Draft::new(call)
+                    .stop(T303)
+                    .tell(Message::ReleaseIndication { cause: 4 })
+                    .over();
             }
             Draft::no_row(call)
         }
@@ -194,10 +213,14 @@ fn demands(call: Call) -> Draft
         return Draft::no_row(call);
     }
     if call.plane == 2 {
-        return Draft::new(call).say(Message::UTxDemand { id }).store_asked(1);
+        return Draft::new(call)
+            .say(Message::UTxDemand { id })
+            .store_asked(1);
     }
     if call.plane == 4 {
-        return Draft::new(call).say(Message::UTxDemand { id }).store_asked(1);
+        return Draft::new(call)
+            .say(Message::UTxDemand { id })
+            .store_asked(1);
     }
     Draft::no_row(call)
 }
@@ -211,7 +234,9 @@ fn ceases(call: Call) -> Draft
         return Draft::new(call).say(Message::UTxCeased { id }).off();
     }
     if call.asked == 1 {
-        return Draft::new(call).say(Message::UTxCeased { id }).store_asked(0);
+        return Draft::new(call)
+            .say(Message::UTxCeased { id })
+            .store_asked(0);
     }
     Draft::no_row(call)
 }
@@ -221,9 +246,16 @@ fn informed(call: Call, reset: u8, code: u8, mode: u8) -> Draft
     ensures { λ r. ⌜ r ≡ informed reset code mode call ⌝ }
 {
     if mode == call.mode {
-        return Draft::new(call).restart(reset, code).same_plane().tell(Message::ModifyIndication { mode });
+        return Draft::new(call)
+            .restart(reset, code)
+            .same_plane()
+            .tell(Message::ModifyIndication { mode });
     }
-    Draft::new(call).restart(reset, code).store_mode(mode).off().tell(Message::ModifyIndication { mode })
+    Draft::new(call)
+        .restart(reset, code)
+        .store_mode(mode)
+        .off()
+        .tell(Message::ModifyIndication { mode })
 }
 
 // BREAK with path up (14.5.1.2.2): a permission that is cut is asked for again (H).
@@ -232,12 +264,15 @@ fn cut(call: Call) -> Draft
 {
     let asked = call.asked;
     if call.plane == 1 {
-        return Draft::new(call).store_asked(1).on_path(Path::Broken).off();
+        return Draft::new(call).store_asked(1).on_path(Path::Broken).off(); // a transmission is cut
     }
     if call.plane == 3 {
         return Draft::new(call).store_asked(1).on_path(Path::Broken).off();
     }
-    Draft::new(call).store_asked(asked).on_path(Path::Broken).off()
+    Draft::new(call)
+        .store_asked(asked)
+        .on_path(Path::Broken)
+        .off()
 }
 
 // Expiry with path up: T311 ends the transmission (14.5.1.2.1).
@@ -248,7 +283,10 @@ fn active_expiry(timer: u16, call: Call) -> Draft
     let timers = call.timers;
     if timer == 311 {
         if timers[T311] {
-            return Draft::new(call).expired(T311).say(Message::UTxCeased { id }).off();
+            return Draft::new(call)
+                .expired(T311)
+                .say(Message::UTxCeased { id })
+                .off();
         }
         return Draft::no_row(call);
     }
@@ -271,22 +309,39 @@ fn active_up(call: Call, event: Event) -> Draft
             let id = call.id;
             Draft::new(call).say(Message::UInfo { id, mode })
         }
-        Event::DInfo { id: _, reset, code, mode } => informed(call, reset, code, mode),
+        Event::DInfo {
+            id: _,
+            reset,
+            code,
+            mode,
+        } => informed(call, reset, code, mode),
         // 14.5.1.2.1
-        Event::DTxGranted { id: _, grant } => Draft::new(call).grant(grant).tell(Message::TxIndication { told: grant }),
+        Event::DTxGranted { id: _, grant } => Draft::new(call)
+            .grant(grant)
+            .tell(Message::TxIndication { told: grant }),
         // 14.5.1.2.1
-        Event::DTxCeased { id: _ } => Draft::new(call).off().tell(Message::TxIndication { told: 4 }),
+        Event::DTxCeased { id: _ } => Draft::new(call)
+            .off()
+            .tell(Message::TxIndication { told: 4 }),
         // 14.5.1.2.1
         Event::DTxInterrupt { id: _, grant } => {
             if grant == 3 {
-                return Draft::new(call).plane(2).tell(Message::TxIndication { told: 5 });
+                return Draft::new(call)
+                    .plane(2)
+                    .tell(Message::TxIndication { told: 5 });
             }
-            Draft::new(call).plane(4).tell(Message::TxIndication { told: 5 })
+            Draft::new(call)
+                .plane(4)
+                .tell(Message::TxIndication { told: 5 })
         }
         // 14.5.1.2.1
         Event::DTxWait { id: _ } => {
             let plane = call.plane;
-            Draft::new(call).go(State::Wait).keep(plane).off().tell(Message::TxIndication { told: 6 })
+            Draft::new(call)
+                .go(State::Wait)
+                .keep(plane)
+                .off()
+                .tell(Message::TxIndication { told: 6 })
         }
         Event::DDisconnect { id } => disconnected(id, call),
         Event::DRelease { id: _ } => released(call),
@@ -345,11 +400,16 @@ fn active_restoring(call: Call, event: Event) -> Draft
     match event {
         Event::ReleaseRequest => releasing(call),
         // 14.5.1.2.2
-        Event::DCallRestore { id: _, grant, reset, code } => Draft::new(call)
+        Event::DCallRestore {
+            id: _,
+            grant,
+            reset,
+            code,
+        } => Draft::new(call)
             .stop(T306)
             .on_path(Path::Up)
             .grant(grant)
-            .restart(reset, code)
+            .restart(reset, code) // r 0 leaves T310 as it is
             .tell(Message::TxIndication { told: grant }),
         Event::DDisconnect { id } => disconnected(id, call),
         Event::DRelease { id: _ } => released(call),
@@ -369,9 +429,15 @@ fn wait(call: Call, event: Event) -> Draft
         Event::DTxContinue { id: _, go } => {
             let kept = call.kept;
             if go == 1 {
-                return Draft::new(call).go(State::CallActive).plane(kept).tell(Message::TxIndication { told: 7 });
+                return Draft::new(call)
+                    .go(State::CallActive)
+                    .plane(kept)
+                    .tell(Message::TxIndication { told: 7 });
             }
-            Draft::new(call).go(State::CallActive).off().tell(Message::TxIndication { told: 8 })
+            Draft::new(call)
+                .go(State::CallActive)
+                .off()
+                .tell(Message::TxIndication { told: 8 })
         }
         Event::DDisconnect { id } => disconnected(id, call),
         Event::DRelease { id: _ } => released(call),

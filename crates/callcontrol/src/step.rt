@@ -51,15 +51,34 @@ fn named_in(event: Event) -> Named
     match event {
         Event::DCallProceeding { id } => Named::Id(id),
         Event::DAlert { id } => Named::Id(id),
-        Event::DConnect { id, grant: _, mode: _, code: _ } => Named::Id(id),
-        Event::DConnectAcknowledge { id, grant: _, code: _ } => Named::Id(id),
-        Event::DInfo { id, reset: _, code: _, mode: _ } => Named::Id(id),
+        Event::DConnect {
+            id,
+            grant: _,
+            mode: _,
+            code: _,
+        } => Named::Id(id),
+        Event::DConnectAcknowledge {
+            id,
+            grant: _,
+            code: _,
+        } => Named::Id(id),
+        Event::DInfo {
+            id,
+            reset: _,
+            code: _,
+            mode: _,
+        } => Named::Id(id),
         Event::DTxGranted { id, grant: _ } => Named::Id(id),
         Event::DTxCeased { id } => Named::Id(id),
         Event::DTxInterrupt { id, grant: _ } => Named::Id(id),
         Event::DTxWait { id } => Named::Id(id),
         Event::DTxContinue { id, go: _ } => Named::Id(id),
-        Event::DCallRestore { id, grant: _, reset: _, code: _ } => Named::Id(id),
+        Event::DCallRestore {
+            id,
+            grant: _,
+            reset: _,
+            code: _,
+        } => Named::Id(id),
         Event::DDisconnect { id } => Named::Id(id),
         Event::DRelease { id } => Named::Id(id),
         _ => Named::NoCall,
@@ -94,11 +113,19 @@ fn carry(call: Call, draft: Draft, buffer: &mut [u8]) -> Stepped
 {
     let size = orders_size(draft);
     if buffer.len() < size {
-        return Stepped { answer: Answer::NoRoom, count: 0, call };
+        return Stepped {
+            answer: Answer::NoRoom,
+            count: 0,
+            call,
+        };
     }
     lay_orders(draft, buffer);
     let next = draft.call;
-    Stepped { answer: Answer::Taken, count: size, call: next }
+    Stepped {
+        answer: Answer::Taken,
+        count: size,
+        call: next,
+    }
 }
 
 // An event that was read.
@@ -106,24 +133,40 @@ fn decide(call: Call, event: Event, buffer: &mut [u8]) -> Stepped
     ensures { λ r. ⌜ asOutcome r (now (buffer .exit)) ≡ decided call event (now (buffer .entry)) ⌝ }
 {
     if other_call(call, event) {
-        return Stepped { answer: Answer::OtherCall, count: 0, call };
+        return Stepped {
+            answer: Answer::OtherCall,
+            count: 0,
+            call,
+        };
     }
     let draft = row_for(call, event);
     if draft.taken {
         return carry(call, draft, buffer);
     }
-    Stepped { answer: Answer::NoRow, count: 0, call }
+    Stepped {
+        answer: Answer::NoRow,
+        count: 0,
+        call,
+    }
 }
 
 pub fn step(call: Call, event: &[u8], buffer: &mut [u8]) -> Stepped
     ensures { λ r. ⌜ asOutcome r (now (buffer .exit)) ≡ stepOf call (now (event .entry)) (now (buffer .entry)) ⌝ }
 {
     if !call.sound() {
-        return Stepped { answer: Answer::NotSound, count: 0, call };
+        return Stepped {
+            answer: Answer::NotSound,
+            count: 0,
+            call,
+        };
     }
     let read = read_event(event);
     let EventRead::Is(e) = read else {
-        return Stepped { answer: unread(read), count: 0, call };
+        return Stepped {
+            answer: unread(read),
+            count: 0,
+            call,
+        };
     };
     decide(call, e, buffer)
 }

@@ -1,0 +1,76 @@
+-- None of the five steps that the paper names meets the promise of the step: on an input written out here each gives something else.
+use Prim.Native.Nat.{ℕ}
+use mathlib.Core.Path.{_≡_, refl, sym, _∙_, ap}
+use mathlib.Core.List.{List, []}
+use native.Mathlib.Omega.{arith}
+use lib.ListN.{replicate}
+use Rattle.records.specs.Letters.{within}
+use Rattle.records.specs.Bytes.{number, bytes}
+use Rattle.records.specs.Bodies.{valueAt, valuesAt, kindIn, bodyOf, bodyBytes, flatSize, flatBytes}
+use Rattle.records.specs.Tables.{readBody, readAs, read}
+use Rattle.records.specs.Messages.{messageBytes}
+use Rattle.callcontrol.specs.declared.call.Call.{Call}
+use Rattle.callcontrol.specs.Call.{freshCall, allStopped, inRange, asFresh, timersAgree, placesAgree, sound}
+use Rattle.callcontrol.specs.Draft.{draft, go, storeAddress, storeMode, storeAsked, start, say}
+use Rattle.callcontrol.specs.Rows.{idle, inState, rowFor}
+use Rattle.callcontrol.specs.Orders.{byNumber, starting, orders, bytesOf}
+use Rattle.callcontrol.specs.Step.{Outcome, otherCall, carried, decided, stepOf}
+use Rattle.callcontrol.specs.Examples.{setupRequest}
+use Rattle.callcontrol.specs.WrongSteps.{Step, Promise, refusesAll, singleAnswer, writesNothing, firstOnly, countsMore}
+
+-- the first input: a SETUP request in IDLE, with 64 bytes lent
+abbrev first : Step → Outcome
+first f = f freshCall setupRequest (replicate 64 0)
+
+-- the second: no byte at all, to the record that a SETUP request leaves
+abbrev second : Step → Outcome
+second f = f (first stepOf .call) [] []
+
+-- what the step makes of them, and where two of the five differ
+record Facts : Type 0 where
+  -- taken, with U-SETUP and START 303
+  answer : first stepOf .answer ≡ 0
+  count : first stepOf .count ≡ 17
+  more : first countsMore .count ≡ 18
+  -- refused: under 4 bytes
+  short : second stepOf .answer ≡ 2
+  zero : second firstOnly .answer ≡ 0
+
+facts : Facts
+unfolding within number bytes valueAt valuesAt kindIn bodyOf bodyBytes flatSize flatBytes readBody readAs read messageBytes allStopped inRange asFresh timersAgree placesAgree sound draft go storeAddress storeMode storeAsked start say idle inState rowFor byNumber starting orders bytesOf otherCall carried decided stepOf
+facts = record { answer = refl; count = refl; more = refl; short = refl; zero = refl }
+
+-- a step that meets the promise gives what the step gives
+first-same : {f : Step} → Promise f → first f ≡ first stepOf
+first-same h = h freshCall setupRequest (replicate 64 0)
+
+second-same : {f : Step} → Promise f → second f ≡ second stepOf
+second-same h = h (first stepOf .call) [] []
+
+answers : {x y : Outcome} → x ≡ y → x .answer ≡ y .answer
+answers e = ap (λ (o : Outcome). o .answer) e
+
+counts : {x y : Outcome} → x ≡ y → x .count ≡ y .count
+counts e = ap (λ (o : Outcome). o .count) e
+
+-- the promise can be met
+pub kept : Promise stepOf
+kept c event buffer = refl
+
+pub refuses-all : (n : ℕ) → Promise (refusesAll n) → ⊥
+refuses-all n h = let e = counts (first-same h) ∙ facts .count in omega arith
+
+pub single-answer : (n : ℕ) → Promise (singleAnswer n) → ⊥
+single-answer n h =
+    let e = answers (first-same h) ∙ facts .answer in
+    let f = answers (second-same h) ∙ facts .short in
+    omega arith
+
+pub writes-nothing : Promise writesNothing → ⊥
+writes-nothing h = let e = counts (first-same h) ∙ facts .count in omega arith
+
+pub first-only : Promise firstOnly → ⊥
+first-only h = let e = sym (facts .zero) ∙ answers (second-same h) ∙ facts .short in omega arith
+
+pub counts-more : Promise countsMore → ⊥
+counts-more h = let e = sym (facts .more) ∙ counts (first-same h) ∙ facts .count in omega arith
