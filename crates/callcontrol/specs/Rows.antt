@@ -19,14 +19,14 @@ use Rattle.callcontrol.specs.Draft.{_▷_, draft, noRow, go, onPath, sto
 unfoldable pub releasing : Call → Draft
 releasing c = draft c ▷ release 1
 
--- the network has ended the call, or ends it and wants U-RELEASE with the received identifier (14.5.1.3.2)
+-- the network has ended the call, or ends it and wants U-RELEASE with the received identifier (14.5.1.3.3)
 unfoldable pub released : Call → Draft
 released c = draft c ▷ stopAll ▷ off ▷ tell (ReleaseIndication 3) ▷ over
 
 unfoldable pub disconnected : ℕ → Call → Draft
 disconnected i c = draft c ▷ stopAll ▷ off ▷ say (URelease i) ▷ tell (ReleaseIndication 3) ▷ over
 
--- expiry of T301, T302, T303, T306 (H) and T310 (14.5.1.3.3)
+-- expiry of T301, T302, T303, T306 (H) and T310 (14.5.1.3.4)
 unfoldable pub timedOut : ℕ → Call → Draft
 timedOut k c = cond (runs c k) (draft c ▷ expired k ▷ release 2 ▷ tell (ReleaseIndication 2)) (noRow c)
 
@@ -100,9 +100,9 @@ moCallSetup c (DTxInterrupt i g) = noRow c
 moCallSetup c (DTxWait i) = noRow c
 moCallSetup c (DTxContinue i k) = noRow c
 moCallSetup c (DCallRestore i g r o) = noRow c
--- 14.5.1.3.2
+-- 14.5.1.3.3
 moCallSetup c (DDisconnect i) = disconnected i c
--- 14.5.1.3.2
+-- 14.5.1.3.3
 moCallSetup c (DRelease i) = released c
 -- 14.5.1.1.2
 moCallSetup c ReportSent = cond (eqb (c .sent) 0) (draft c ▷ storeSent 1) (noRow c)
@@ -110,7 +110,7 @@ moCallSetup c ReportSent = cond (eqb (c .sent) 0) (draft c ▷ storeSent 1) (noR
 moCallSetup c ReportFailed = cond (eqb (c .sent) 0) (draft c ▷ stop T303 ▷ tell (ReleaseIndication 4) ▷ over) (noRow c)
 moCallSetup c Break = noRow c
 moCallSetup c Resume = noRow c
--- 14.5.1.3.3; T306 H
+-- 14.5.1.3.4; T306 H
 moCallSetup c (Expiry n) = expiry n c
 
 -- MT-CALL-SETUP
@@ -138,15 +138,15 @@ mtCallSetup c (DTxInterrupt i g) = noRow c
 mtCallSetup c (DTxWait i) = noRow c
 mtCallSetup c (DTxContinue i k) = noRow c
 mtCallSetup c (DCallRestore i g r o) = noRow c
--- 14.5.1.3.2
+-- 14.5.1.3.3
 mtCallSetup c (DDisconnect i) = disconnected i c
--- 14.5.1.3.2
+-- 14.5.1.3.3
 mtCallSetup c (DRelease i) = released c
 mtCallSetup c ReportSent = noRow c
 mtCallSetup c ReportFailed = noRow c
 mtCallSetup c Break = noRow c
 mtCallSetup c Resume = noRow c
--- 14.5.1.3.3; T306 H
+-- 14.5.1.3.4; T306 H
 mtCallSetup c (Expiry n) = expiry n c
 
 -- the user wants to transmit, or stops, with path up (14.5.1.2.1)
@@ -168,7 +168,7 @@ informed r o d c =
     (draft c ▷ restart r o ▷ samePlane ▷ tell (ModifyIndication d))
     (draft c ▷ restart r o ▷ storeMode d ▷ off ▷ tell (ModifyIndication d))
 
--- BREAK with path up (14.5.1.2.2): a permission that is cut is asked for again (H)
+-- BREAK with path up (14.5.1.2.4): a permission that is cut is asked for again (H)
 unfoldable pub cut : Call → Draft
 cut c =
     draft c
@@ -209,9 +209,9 @@ activeUp c (DTxInterrupt i g) = draft c ▷ plane (cond (eqb g 3) 2 4) ▷ tell 
 activeUp c (DTxWait i) = draft c ▷ go State.Wait ▷ keep (c .plane) ▷ off ▷ tell (TxIndication 6)
 activeUp c (DTxContinue i k) = noRow c
 activeUp c (DCallRestore i g r o) = noRow c
--- 14.5.1.3.2
+-- 14.5.1.3.3
 activeUp c (DDisconnect i) = disconnected i c
--- 14.5.1.3.2
+-- 14.5.1.3.3
 activeUp c (DRelease i) = released c
 activeUp c ReportSent = noRow c
 activeUp c ReportFailed = noRow c
@@ -229,7 +229,7 @@ activeBroken c (SetupRequest a d q) = noRow c
 activeBroken c SetupResponse = noRow c
 -- 14.5.1.3.1
 activeBroken c ReleaseRequest = releasing c
--- 14.5.1.2.2
+-- 14.5.1.2.4
 activeBroken c (TxRequest k) = cond (eqb (c .asked) k) (noRow c) (draft c ▷ storeAsked k)
 activeBroken c (ModifyRequest d) = noRow c
 activeBroken c (DCallProceeding i) = noRow c
@@ -244,21 +244,21 @@ activeBroken c (DTxInterrupt i g) = noRow c
 activeBroken c (DTxWait i) = noRow c
 activeBroken c (DTxContinue i k) = noRow c
 activeBroken c (DCallRestore i g r o) = noRow c
--- 14.5.1.3.2
+-- 14.5.1.3.3
 activeBroken c (DDisconnect i) = disconnected i c
--- 14.5.1.3.2
+-- 14.5.1.3.3
 activeBroken c (DRelease i) = released c
 activeBroken c ReportSent = noRow c
 activeBroken c ReportFailed = noRow c
 activeBroken c Break = noRow c
--- 14.5.1.2.2
+-- 14.5.1.2.4
 activeBroken c Resume =
     draft c
     ▷ storeAsked (asks c)
     ▷ onPath Path.Restoring
     ▷ say (UCallRestore (c .id) (c .address) (asks c))
     ▷ start T306
--- 14.5.1.3.3; T306 H
+-- 14.5.1.3.4; T306 H
 activeBroken c (Expiry n) = expiry n c
 
 -- CALL-ACTIVE, restoring
@@ -280,18 +280,18 @@ activeRestoring c (DTxCeased i) = noRow c
 activeRestoring c (DTxInterrupt i g) = noRow c
 activeRestoring c (DTxWait i) = noRow c
 activeRestoring c (DTxContinue i k) = noRow c
--- 14.5.1.2.2
+-- 14.5.1.2.4
 activeRestoring c (DCallRestore i g r o) = draft c ▷ stop T306 ▷ onPath Path.Up ▷ grant g ▷ restart r o ▷ tell (TxIndication g)
--- 14.5.1.3.2
+-- 14.5.1.3.3
 activeRestoring c (DDisconnect i) = disconnected i c
--- 14.5.1.3.2
+-- 14.5.1.3.3
 activeRestoring c (DRelease i) = released c
 activeRestoring c ReportSent = noRow c
 activeRestoring c ReportFailed = noRow c
--- 14.5.1.2.2
+-- 14.5.1.2.4
 activeRestoring c Break = draft c ▷ stop T306 ▷ onPath Path.Broken ▷ off
 activeRestoring c Resume = noRow c
--- 14.5.1.3.3; T306 H
+-- 14.5.1.3.4; T306 H
 activeRestoring c (Expiry n) = expiry n c
 
 -- WAIT
@@ -318,16 +318,16 @@ wait c (DTxContinue i k) =
     (draft c ▷ go State.CallActive ▷ plane (c .kept) ▷ tell (TxIndication 7))
     (draft c ▷ go State.CallActive ▷ off ▷ tell (TxIndication 8))
 wait c (DCallRestore i g r o) = noRow c
--- 14.5.1.3.2
+-- 14.5.1.3.3
 wait c (DDisconnect i) = disconnected i c
--- 14.5.1.3.2
+-- 14.5.1.3.3
 wait c (DRelease i) = released c
 wait c ReportSent = noRow c
 wait c ReportFailed = noRow c
--- 14.5.1.2.2
+-- 14.5.1.2.4
 wait c Break = draft c ▷ go State.CallActive ▷ onPath Path.Broken ▷ off ▷ tell (TxIndication 8)
 wait c Resume = noRow c
--- 14.5.1.3.3; T306 H
+-- 14.5.1.3.4; T306 H
 wait c (Expiry n) = expiry n c
 
 -- the end that this side asked for
@@ -353,13 +353,13 @@ callDisconnect c (DTxInterrupt i g) = noRow c
 callDisconnect c (DTxWait i) = noRow c
 callDisconnect c (DTxContinue i k) = noRow c
 callDisconnect c (DCallRestore i g r o) = noRow c
--- 14.5.1.3.2
+-- 14.5.1.3.5
 callDisconnect c (DDisconnect i) = cond (eqb (c .sent) 0) (disconnected i c ▷ cancel) (disconnected i c)
--- 14.5.1.3.2
+-- 14.5.1.3.5
 callDisconnect c (DRelease i) = cond (eqb (c .sent) 0) (released c ▷ cancel) (draft c ▷ confirmed)
 -- 14.5.1.3.1
 callDisconnect c ReportSent = cond (eqb (c .sent) 0) (draft c ▷ storeSent 1) (noRow c)
--- 14.5.1.3.4
+-- 14.5.1.3.1
 callDisconnect c ReportFailed = cond (eqb (c .sent) 0) (draft c ▷ confirmed) (noRow c)
 callDisconnect c Break = noRow c
 callDisconnect c Resume = noRow c

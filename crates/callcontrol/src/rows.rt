@@ -26,7 +26,7 @@ fn releasing(call: Call) -> Draft
     Draft::new(call).release(1)
 }
 
-// The network has ended the call (14.5.1.3.2).
+// The network has ended the call (14.5.1.3.3).
 fn released(call: Call) -> Draft
     ensures { λ r. ⌜ r ≡ released call ⌝ }
 {
@@ -37,7 +37,7 @@ fn released(call: Call) -> Draft
         .over()
 }
 
-// The network ends the call and wants U-RELEASE with the received identifier (14.5.1.3.2).
+// The network ends the call and wants U-RELEASE with the received identifier (14.5.1.3.3).
 fn disconnected(id: u16, call: Call) -> Draft
     ensures { λ r. ⌜ r ≡ disconnected id call ⌝ }
 {
@@ -49,7 +49,7 @@ fn disconnected(id: u16, call: Call) -> Draft
         .over()
 }
 
-// Expiry of T301, T302, T303, T306 (H) and T310 (14.5.1.3.3).
+// Expiry of T301, T302, T303, T306 (H) and T310 (14.5.1.3.4).
 fn timed_out(k: usize, call: Call) -> Draft
     requires { ⌜ k < 7 ⌝ }
     ensures { λ r. ⌜ r ≡ timedOut k call ⌝ }
@@ -258,7 +258,7 @@ fn informed(call: Call, reset: u8, code: u8, mode: u8) -> Draft
         .tell(Message::ModifyIndication { mode })
 }
 
-// BREAK with path up (14.5.1.2.2): a permission that is cut is asked for again (H).
+// BREAK with path up (14.5.1.2.4): a permission that is cut is asked for again (H).
 fn cut(call: Call) -> Draft
     ensures { λ r. ⌜ r ≡ cut call ⌝ }
 {
@@ -369,7 +369,7 @@ fn active_broken(call: Call, event: Event) -> Draft
 {
     match event {
         Event::ReleaseRequest => releasing(call),
-        // 14.5.1.2.2
+        // 14.5.1.2.4
         Event::TxRequest { go } => {
             if call.asked == go {
                 return Draft::no_row(call);
@@ -378,7 +378,7 @@ fn active_broken(call: Call, event: Event) -> Draft
         }
         Event::DDisconnect { id } => disconnected(id, call),
         Event::DRelease { id: _ } => released(call),
-        // 14.5.1.2.2
+        // 14.5.1.2.4
         Event::Resume => {
             let id = call.id;
             let address = call.address;
@@ -399,7 +399,7 @@ fn active_restoring(call: Call, event: Event) -> Draft
 {
     match event {
         Event::ReleaseRequest => releasing(call),
-        // 14.5.1.2.2
+        // 14.5.1.2.4
         Event::DCallRestore {
             id: _,
             grant,
@@ -413,7 +413,7 @@ fn active_restoring(call: Call, event: Event) -> Draft
             .tell(Message::TxIndication { told: grant }),
         Event::DDisconnect { id } => disconnected(id, call),
         Event::DRelease { id: _ } => released(call),
-        // 14.5.1.2.2
+        // 14.5.1.2.4
         Event::Break => Draft::new(call).stop(T306).on_path(Path::Broken).off(),
         Event::Expiry { timer } => expiry(timer, call),
         _ => Draft::no_row(call),
@@ -441,7 +441,7 @@ fn wait(call: Call, event: Event) -> Draft
         }
         Event::DDisconnect { id } => disconnected(id, call),
         Event::DRelease { id: _ } => released(call),
-        // 14.5.1.2.2: the permission was lost with the pause, so asked stays.
+        // 14.5.1.2.4: the permission was lost with the pause, so asked stays.
         Event::Break => Draft::new(call)
             .go(State::CallActive)
             .on_path(Path::Broken)
@@ -463,14 +463,14 @@ fn call_disconnect(call: Call, event: Event) -> Draft
     ensures { λ r. ⌜ r ≡ callDisconnect call event ⌝ }
 {
     match event {
-        // 14.5.1.3.2
+        // 14.5.1.3.5
         Event::DDisconnect { id } => {
             if call.sent == 0 {
                 return disconnected(id, call).cancel();
             }
             disconnected(id, call)
         }
-        // 14.5.1.3.2
+        // 14.5.1.3.5
         Event::DRelease { id: _ } => {
             if call.sent == 0 {
                 return released(call).cancel();
@@ -484,7 +484,7 @@ fn call_disconnect(call: Call, event: Event) -> Draft
             }
             Draft::no_row(call)
         }
-        // 14.5.1.3.4
+        // 14.5.1.3.1
         Event::ReportFailed => {
             if call.sent == 0 {
                 return confirmed(Draft::new(call));
