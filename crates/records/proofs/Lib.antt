@@ -1,3 +1,4 @@
+-- Laws that more than one function needs, and the claims about the tables; a function's own proof stands in its folder.
 pub mod Determined
 pub mod Laws
 pub mod RoundTrip

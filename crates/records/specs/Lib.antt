@@ -1,3 +1,4 @@
+-- What the promises of this crate cite: letters, bytes, bodies, tables, and the laws of the tables.
 pub mod Letters
 pub mod Bytes
 pub mod Bodies
