@@ -15,4 +15,4 @@ disconnected-spec =
     (λ c κs. search needs)
     (λ c κs. search needs)
     (λ c κs. search needs)
-    (λ c. cc))
+    (λ c. rw (c .over .ensures, c .before .tell .ensures, c .before .before .say .ensures, c .before .before .before .off .ensures, c .before .before .before .before .stop-all .ensures, c .before .before .before .before .before .new .ensures)))

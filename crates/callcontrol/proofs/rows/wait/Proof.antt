@@ -79,6 +79,6 @@ wait-spec =
     (λ c. rw (c .before .before .before .before .before .before .event .given .1, ne-eqb _ _ (c .before .before .before .before .if1 .left)) (cc))
     (λ c. rw (c .before .before .event2 .given .1) (c .disconnected .ensures))
     (λ c. rw (c .before .enum-told2 .given .1) (c .released .ensures))
-    (λ c. rw (c .before .before .before .before .before .enum-told3 .given .1) (cc))
+    (λ c. rw (c .before .before .before .before .before .enum-told3 .given .1, c .tell3 .ensures, c .before .off2 .ensures, c .before .before .on-path .ensures, c .before .before .before .go3 .ensures, c .before .before .before .before .new3 .ensures))
     (λ c. rw (c .before .before .event3 .given .1) (c .expiry .ensures))
     (λ c. c .no-row .ensures ∙ no-row (c .before .before .args .call) (c .before .before .args .event) (oneOf others (c .before .before .args .event) (c .before .match .keys7))))
