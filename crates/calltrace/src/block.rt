@@ -1,0 +1,154 @@
+// The records of a block of input: where each ends, and the lines of those that are there whole.
+ghost use mathlib.Core.Path.{_≡_};
+ghost use Prim.Native.Nat.{ℕ, _+_, _-_, _<_, _≤_};
+ghost use lib.ListN.{length, replicate};
+ghost use Rattle.records.specs.Bodies.{Stored};
+ghost use Rattle.callcontrol.specs.Step.{stepOf, answerNumber};
+ghost use Rattle.calltrace.specs.Line.{lineFor};
+ghost use Rattle.calltrace.specs.Block.{frameAt, FrameIn, PauseIn};
+use crate::line::Line;
+use crate::line::put_line;
+use callcontrol::call::Call;
+use callcontrol::step::Answer;
+use callcontrol::step::step;
+
+// What stands at a position.
+pub enum Frame {
+    // A whole record, up to this position.
+    Whole(usize),
+    // A record of which bytes are missing, or nothing.
+    Cut,
+    // A length under 4, which no record has.
+    Short,
+}
+
+// Why the lines of a block stop.
+pub enum Pause {
+    // There is no room for another line.
+    Full,
+    // What is left is no whole record.
+    Cut,
+    // A length under 4 follows.
+    Short,
+}
+
+pub struct Drained {
+    // Where the next record starts.
+    pub at: usize,
+    // Where the next line starts.
+    pub laid: usize,
+    pub call: Call,
+    pub pause: Pause,
+}
+
+struct Turned {
+    laid: usize,
+    call: Call,
+}
+
+fn frame_at(s: &[u8], at: usize) -> Frame
+    requires { ⌜ at ≤ length (now s) ⌝ }
+    ensures { λ r. ⌜ r ≡ frameAt (now (s .entry)) at ⌝ }
+    ensures { λ r. ⌜ FrameIn at (length (now (s .entry))) r ⌝ }
+{
+    let left = s.len() - at;
+    if left < 2 {
+        return Frame::Cut;
+    }
+    let size = (s[at] as usize) + 256 * (s[at + 1] as usize);
+    if size < 4 {
+        return Frame::Short;
+    }
+    if left < size {
+        return Frame::Cut;
+    }
+    Frame::Whole(at + size)
+}
+
+fn answer_number(answer: Answer) -> u8
+    ensures { λ r. ⌜ r ≡ answerNumber answer ⌝ }
+    ensures { λ r. ⌜ r < 10 ⌝ }
+{
+    match answer {
+        Answer::Taken => 0,
+        Answer::NotSound => 1,
+        Answer::BadLength => 2,
+        Answer::UnknownKind => 3,
+        Answer::BadBody => 4,
+        Answer::OtherCall => 5,
+        Answer::NoRow => 6,
+        Answer::NoRoom => 7,
+    }
+}
+
+// One record through the step, which is lent 64 bytes for messages, and its line.
+fn turn(call: Call, event: &[u8], lines: &mut [u8], laid: usize) -> Turned
+    requires { ⌜ laid + 26 ≤ length (now lines) ⌝ }
+    ensures { λ r. ⌜ r .call ≡ stepOf call (now (event .entry)) (replicate 64 0) .call ⌝ }
+    ensures { λ r. ⌜ Stored (now (lines .entry)) laid (lineFor (stepOf call (now (event .entry)) (replicate 64 0))) (r .laid) (now (lines .exit)) ⌝ }
+    ensures { λ r. ⌜ r .laid ≤ length (now (lines .entry)) ⌝ }
+{
+    let mut messages = [0u8; 64];
+    let stepped = step(call, event, &mut messages);
+    let next = stepped.call;
+    let answer = stepped.answer;
+    let state = next.state;
+    let line = Line {
+        answer: answer_number(answer),
+        state,
+        plane: next.plane,
+        count: stepped.count as u8,
+    };
+    let end = put_line(lines, laid, line);
+    Turned {
+        laid: end,
+        call: next,
+    }
+}
+
+// The lines of the whole records from `from` on, for as long as there is room for a line.
+pub fn drain(s: &[u8], from: usize, first: Call, lines: &mut [u8], filled: usize) -> Drained
+    requires { ⌜ from ≤ length (now s) ⌝ }
+    requires { ⌜ filled ≤ length (now lines) ⌝ }
+    ensures { λ r. ⌜ r .at ≤ length (now (s .entry)) ⌝ }
+    ensures { λ r. ⌜ r .laid ≤ length (now (lines .entry)) ⌝ }
+    ensures { λ r. ⌜ PauseIn (length (now (s .entry)) - r .at) (length (now (lines .entry)) - r .laid) (r .pause) ⌝ }
+{
+    let mut at = from;
+    let mut call = first;
+    let mut laid = filled;
+    while 26 <= lines.len() - laid {
+        let frame = frame_at(s, at);
+        match frame {
+            Frame::Whole(end) => {
+                let turned = turn(call, &s[at..end], lines, laid);
+                let next = turned.call;
+                call = next;
+                laid = turned.laid;
+                at = end;
+            }
+            Frame::Cut => {
+                return Drained {
+                    at,
+                    laid,
+                    call,
+                    pause: Pause::Cut,
+                };
+            }
+            Frame::Short => {
+                return Drained {
+                    at,
+                    laid,
+                    call,
+                    pause: Pause::Short,
+                };
+            }
+        }
+    }
+    Drained {
+        at,
+        laid,
+        call,
+        pause: Pause::Full,
+    }
+}

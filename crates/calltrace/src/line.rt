@@ -1,0 +1,102 @@
+// The text of a line: the answer, the state and the plane of the record given back, and the count of bytes written.
+ghost use Prim.Native.Nat.{ℕ, _+_, _<_, _≤_};
+ghost use mathlib.Core.List.{List, [], _∷_};
+ghost use lib.ListN.{length};
+ghost use Rattle.records.specs.Bodies.{Stored};
+ghost use Rattle.calltrace.specs.Line.{code, decimal, nameOf, header, lineBytes};
+use callcontrol::call::State;
+
+pub struct Line {
+    pub answer: u8,
+    pub state: State,
+    pub plane: u8,
+    pub count: u8,
+}
+
+// Each answers the position behind what it stores.
+
+fn put_byte(lines: &mut [u8], at: usize, byte: u8) -> usize
+    requires { ⌜ at < length (now lines) ⌝ }
+    ensures { λ r. ⌜ Stored (now (lines .entry)) at (byte ∷ []) r (now (lines .exit)) ⌝ }
+{
+    lines[at] = byte;
+    at + 1
+}
+
+fn put_text(lines: &mut [u8], at: usize, text: &[u8]) -> usize
+    requires { ⌜ at + length (now text) ≤ length (now lines) ⌝ }
+    ensures { λ r. ⌜ Stored (now (lines .entry)) at (now (text .entry)) r (now (lines .exit)) ⌝ }
+{
+    let mut i = 0;
+    while i < text.len() {
+        lines[at + i] = text[i];
+        i += 1;
+    }
+    at + i
+}
+
+fn put_digit(lines: &mut [u8], at: usize, digit: u8) -> usize
+    requires { ⌜ at < length (now lines) ⌝ }
+    requires { ⌜ digit < 10 ⌝ }
+    ensures { λ r. ⌜ Stored (now (lines .entry)) at (code digit) r (now (lines .exit)) ⌝ }
+{
+    put_byte(lines, at, b'0' + digit)
+}
+
+fn put_number(lines: &mut [u8], at: usize, n: u8) -> usize
+    requires { ⌜ at + 3 ≤ length (now lines) ⌝ }
+    ensures { λ r. ⌜ Stored (now (lines .entry)) at (decimal n) r (now (lines .exit)) ⌝ }
+    ensures { λ r. ⌜ r ≤ at + 3 ⌝ }
+{
+    if n < 10 {
+        return put_digit(lines, at, n);
+    }
+    if n < 100 {
+        let next = put_digit(lines, at, n / 10);
+        return put_digit(lines, next, n % 10);
+    }
+    let next = put_digit(lines, at, n / 100);
+    let next = put_digit(lines, next, n / 10 % 10);
+    put_digit(lines, next, n % 10)
+}
+
+fn put_name(lines: &mut [u8], at: usize, state: State) -> usize
+    requires { ⌜ at + 15 ≤ length (now lines) ⌝ }
+    ensures { λ r. ⌜ Stored (now (lines .entry)) at (nameOf state) r (now (lines .exit)) ⌝ }
+    ensures { λ r. ⌜ r ≤ at + 15 ⌝ }
+{
+    match state {
+        State::Idle => put_text(lines, at, b"IDLE"),
+        State::MoCallSetup => put_text(lines, at, b"MO-CALL-SETUP"),
+        State::MtCallSetup => put_text(lines, at, b"MT-CALL-SETUP"),
+        State::CallActive => put_text(lines, at, b"CALL-ACTIVE"),
+        State::Wait => put_text(lines, at, b"WAIT"),
+        State::CallDisconnect => put_text(lines, at, b"CALL-DISCONNECT"),
+    }
+}
+
+pub fn put_header(lines: &mut [u8]) -> usize
+    requires { ⌜ 25 ≤ length (now lines) ⌝ }
+    ensures { λ r. ⌜ Stored (now (lines .entry)) 0 header r (now (lines .exit)) ⌝ }
+    ensures { λ r. ⌜ r ≤ 25 ⌝ }
+{
+    put_text(lines, 0, b"answer state plane bytes\n")
+}
+
+// No line takes more than 26 bytes.
+pub fn put_line(lines: &mut [u8], at: usize, line: Line) -> usize
+    requires { ⌜ at + 26 ≤ length (now lines) ⌝ }
+    requires { ⌜ line .answer < 10 ⌝ }
+    ensures { λ r. ⌜ Stored (now (lines .entry)) at (lineBytes line) r (now (lines .exit)) ⌝ }
+    ensures { λ r. ⌜ r ≤ at + 26 ⌝ }
+{
+    let state = line.state;
+    let at = put_digit(lines, at, line.answer);
+    let at = put_byte(lines, at, b' ');
+    let at = put_name(lines, at, state);
+    let at = put_byte(lines, at, b' ');
+    let at = put_number(lines, at, line.plane);
+    let at = put_byte(lines, at, b' ');
+    let at = put_number(lines, at, line.count);
+    put_byte(lines, at, b'\n')
+}

@@ -1,0 +1,107 @@
+-- Every count is small, so that answer * 65536 + count is a u32.
+use Prim.Native.Nat.{ℕ, _+_, _≤_, _<_, _^_}
+use mathlib.Core.Path.{_≡_, ap}
+use mathlib.Core.Bool.{Bool, true, false, cond, not, _&&_}
+use mathlib.Core.List.{List, [], _∷_}
+use mathlib.Core.Option.{Option, some}
+use native.Mathlib.Omega.{arith}
+use borrow.Author.Tests.{ltb-true}
+use lib.Dec.{eqb, leb, ltb, lit≤, lit<}
+use lib.Seq.{sets}
+use lib.ListN.{length, getD}
+use Rattle.records.specs.declared.events.Event.{Event}
+use Rattle.records.specs.Bodies.{Wrote, wrote, notWritten, size, flatSize, flatBytes, written}
+use Rattle.records.specs.Tables.{Table, Read, taken, refused, find, read, flat, fine, write}
+use Rattle.records.specs.Events.{events}
+use Rattle.records.specs.Laws.{every, Lawful}
+use Rattle.records.proofs.Laws.{length-flatBytes}
+use Rattle.callcontrol.specs.declared.call.Call.{Call}
+use Rattle.callcontrol.specs.declared.draft.Draft.{Draft}
+use Rattle.callcontrol.specs.declared.draft.Slot.{Slot}
+use Rattle.callcontrol.specs.Call.{sound}
+use Rattle.callcontrol.specs.Rows.{rowFor}
+use Rattle.callcontrol.specs.Orders.{held, orders, bytesOf, countOf}
+use Rattle.callcontrol.specs.Step.{Outcome, refusal, otherCall, carried, decided, whenRead, stepOf}
+use Rattle.callcontrol.proofs.Laying.{size-one, size-bound, size-orders}
+use Rattle.host.specs.Entries.{wroteWord}
+use Rattle.host.proofs.Tests.{left, right}
+
+-- ---- a step writes at most seven STOPs and seven STARTs, CANCEL, a PDU, CONFIGURE and a primitive
+
+at-most : (b : Bool) (n : ℕ) → cond b n 0 ≤ n
+at-most true n = omega arith
+at-most false n = omega arith
+
+seven : (flags : List Bool) → countOf flags ≤ 7
+unfolding countOf
+seven flags =
+    let one : (k : ℕ) → cond (getD flags k false) 1 0 ≤ 1 = λ k. at-most (getD flags k false) 1 in
+    omega (arith, one 0, one 1, one 2, one 3, one 4, one 5, one 6)
+
+held-small : (slot : Slot) → length (bytesOf (held slot)) ≤ 11
+unfolding bytesOf
+held-small Slot.Empty = lit≤ tt
+held-small (Slot.Holds m) = omega (arith, size-one m, size-bound m)
+
+orders-small : (d : Draft) → length (bytesOf (orders d)) ≤ 122
+orders-small d =
+    omega
+    (arith, size-orders d, seven (d .stops), seven (d .starts), held-small (d .pdu), held-small (d .user), at-most (d .cancel) 4, at-most (not (eqb (d .told) 0)) 5)
+
+record Few (o : Outcome) : Type 0 where
+  few : o .count ≤ 122
+
+either : (b : Bool) {x y : Outcome} → Few x → Few y → Few (cond b x y)
+either true h k = h
+either false h k = k
+
+none : {n : ℕ} {c : Call} {b : List ℕ} → Few (refusal n c b)
+none = record { few = lit≤ tt }
+
+read-few : (r : Read Event) (c : Call) (b : List ℕ) → Few (whenRead r c b)
+unfolding decided carried
+read-few (taken e) c b =
+    either (otherCall c e) none
+    (either (rowFor c e .taken)
+    (either (leb (length (bytesOf (orders (rowFor c e)))) (length b)) (record { few = orders-small (rowFor c e) }) none)
+    none)
+read-few (refused n) c b = none
+
+step-few : (c : Call) (e b : List ℕ) → Few (stepOf c e b)
+unfolding stepOf
+step-few c e b = either (sound c) (read-few (read events e) c b) none
+
+pub step-small : (c : Call) (e b : List ℕ) {o : Outcome} → o ≡ stepOf c e b → o .count ≤ 122
+step-small c e b same = rw same (step-few c e b .few)
+
+-- ---- a record's size takes two bytes
+
+found-here : {A : Type 0} (p : A → Bool) (b all : Bool) (j k : A) (rest : Option A) → cond b (some j) rest ≡ some k → (p j && all) ≡ true
+    → (rest ≡ some k → all ≡ true → p k ≡ true) → p k ≡ true
+found-here {A} p true all j k rest e h f = let same : j ≡ k = cc in rw same at (left (p j) all h)
+found-here p false all j k rest e h f = f e (right (p j) all h)
+
+count-small : (ok room : Bool) (n : ℕ) (x y : List ℕ) → n < 65536
+    → wroteWord (cond {A = Wrote × List ℕ} ok (cond room (wrote n, x) (notWritten 7, y)) (notWritten 4, y) .0) < 2 ^ 32
+count-small true true n x y h = omega arith
+count-small true false n x y h = lit< tt
+count-small false room n x y h = lit< tt
+
+module _ (t : Table) (lawful : Lawful t) where
+  -- a test of every kind holds of the kind that is found
+  found : (p : t .Kind → Bool) (n : ℕ) (ks : List (t .Kind)) (k : t .Kind) → find t n ks ≡ some k → every p ks ≡ true → p k ≡ true
+  found p n [] k e h = cc
+  found p n (j ∷ ks) k e h = found-here p (eqb n (t .rowOf j .number)) (every p ks) j k (find t n ks) e h (found p n ks k)
+
+  narrow : (k : t .Kind) → 4 + size (t .rowOf k .letters) < 65536
+  narrow k =
+      let w : (ltb (t .rowOf k .number) 65536 && ltb (4 + size (t .rowOf k .letters)) 65536) ≡ true =
+              found _ (t .rowOf k .number) (t .kinds) k (lawful .found k) (lawful .narrow) in
+      ltb-true _ _ (right (ltb (t .rowOf k .number) 65536) _ w)
+
+  pub written-small : {w : Wrote} {after : List ℕ} (v : t .Value) (out : List ℕ) → (w, after) ≡ write t v out → wroteWord w < 2 ^ 32
+  unfolding write written flatSize
+  written-small v out e =
+      let n : length (flatBytes (flat t v)) < 65536 = rw (length-flatBytes (flat t v)) (narrow (t .apart v .0)) in
+      rw (ap (λ (x : Wrote × List ℕ). x .0) e)
+      (count-small (fine t v) (leb (length (flatBytes (flat t v))) (length out)) _ (sets out 0 (flatBytes (flat t v))) out n)

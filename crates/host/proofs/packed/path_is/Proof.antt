@@ -1,0 +1,22 @@
+-- In each arm the number is known; in the last it is 2 or more.
+use Prim.Native.Nat.{ℕ, zero, suc, _≤_}
+use mathlib.Core.Path.{_≡_, refl}
+use native.Mathlib.Omega.{arith}
+use borrow.Author.Needs.{needs}
+use Rattle.callcontrol.specs.declared.call.Path.{Path}
+use Rattle.host.specs.Packing.{pathIs}
+use Rattle.host.proofs.packed.path_is.Statement.{statement}
+use Rattle.host.proofs.packed.path_is.Tie as tie
+
+last : (n : ℕ) → 2 ≤ n → Path.Restoring ≡ pathIs n
+last zero h = absurd (omega arith)
+last (suc zero) h = absurd (omega arith)
+last (suc (suc n)) h = refl
+
+pub path-is-spec : {M : Type 1} → statement M
+path-is-spec =
+    tie.close
+    (tie.spec
+    (λ c. search needs)
+    (λ c. search needs)
+    (λ c. let r = c .match .rest in let h : 2 ≤ c .before .args .n = omega (arith, r .1, r .0 .1) in last _ h))

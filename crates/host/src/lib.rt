@@ -1,0 +1,146 @@
+// What a set links: call control on byte slices. A host keeps a call as 21 bytes and hands them in with each event. Every entry returns
+// answer * 65536 + count of bytes written.
+ghost use mathlib.Core.Path.{_≡_};
+ghost use mathlib.Core.List.{List};
+ghost use Prim.Native.Nat.{ℕ, _<_, _^_};
+ghost use Rattle.records.specs.Bodies.{asWrote};
+ghost use Rattle.records.specs.Events.{events, asEventRead};
+ghost use Rattle.records.specs.Messages.{messages, asMessageRead};
+ghost use Rattle.callcontrol.specs.Step.{answerNumber};
+ghost use Rattle.host.specs.Entries.{Left, freshened, hostStep, readWord, wroteWord, checked, copied};
+
+mod packed;
+
+use crate::packed::held;
+use crate::packed::is_record;
+use crate::packed::pack;
+use callcontrol::call::Call;
+use callcontrol::step::Answer;
+use callcontrol::step::step;
+use records::bodies::Written;
+use records::events::EventRead;
+use records::events::read_event;
+use records::events::write_event;
+use records::messages::MessageRead;
+use records::messages::read_message;
+use records::messages::write_message;
+
+fn answer_number(answer: Answer) -> u32
+    ensures { λ r. ⌜ r ≡ answerNumber answer ⌝ }
+    ensures { λ r. ⌜ r < 8 ⌝ }
+{
+    match answer {
+        Answer::Taken => 0,
+        Answer::NotSound => 1,
+        Answer::BadLength => 2,
+        Answer::UnknownKind => 3,
+        Answer::BadBody => 4,
+        Answer::OtherCall => 5,
+        Answer::NoRow => 6,
+        Answer::NoRoom => 7,
+    }
+}
+
+fn event_word(read: EventRead) -> u32
+    ensures { λ r. ⌜ r ≡ readWord (asEventRead read) ⌝ }
+{
+    match read {
+        EventRead::Is(_) => 0,
+        EventRead::BadLength => 2 * 65536,
+        EventRead::UnknownKind => 3 * 65536,
+        EventRead::BadBody => 4 * 65536,
+    }
+}
+
+fn message_word(read: MessageRead) -> u32
+    ensures { λ r. ⌜ r ≡ readWord (asMessageRead read) ⌝ }
+{
+    match read {
+        MessageRead::Is(_) => 0,
+        MessageRead::BadLength => 2 * 65536,
+        MessageRead::UnknownKind => 3 * 65536,
+        MessageRead::BadBody => 4 * 65536,
+    }
+}
+
+fn written_word(written: Written) -> u32
+    requires { ⌜ wroteWord (asWrote written) < 2 ^ 32 ⌝ }
+    ensures { λ r. ⌜ r ≡ wroteWord (asWrote written) ⌝ }
+{
+    match written {
+        Written::Count(n) => n as u32,
+        Written::BadField => 4 * 65536,
+        Written::NoRoom => 7 * 65536,
+    }
+}
+
+// Writes the fresh record; answer 1 where it has not 21 bytes.
+#[no_mangle]
+pub extern "C" fn callcontrol_fresh(call: &mut [u8]) -> u32
+    ensures { λ r. ⌜ _≡_ {A = ℕ × List ℕ} (r, now (call .exit)) (freshened (now (call .entry))) ⌝ }
+{
+    if call.len() != 21 {
+        return 65536;
+    }
+    pack(Call::fresh(), call);
+    21
+}
+
+// One step: the record goes on and the messages are in out, or nothing is changed.
+#[no_mangle]
+pub extern "C" fn callcontrol_step(call: &mut [u8], event: &[u8], out: &mut [u8]) -> u32
+    ensures { λ r. ⌜ _≡_ {A = Left} (record { result = r; call = now (call .exit); out = now (out .exit) }) (hostStep (now (call .entry)) (now (event .entry)) (now (out .entry))) ⌝ }
+{
+    if !is_record(call) {
+        return 65536;
+    }
+    let stepped = step(held(call), event, out);
+    let answer = stepped.answer;
+    let next = stepped.call;
+    let number = answer_number(answer);
+    let result = number * 65536 + stepped.count as u32;
+    if number == 0 {
+        pack(next, call);
+    }
+    result
+}
+
+// What reading an event answers.
+#[no_mangle]
+pub extern "C" fn callcontrol_check_event(bytes: &[u8]) -> u32
+    ensures { λ r. ⌜ r ≡ checked events (now (bytes .entry)) ⌝ }
+{
+    event_word(read_event(bytes))
+}
+
+// What reading a message answers.
+#[no_mangle]
+pub extern "C" fn callcontrol_check_message(bytes: &[u8]) -> u32
+    ensures { λ r. ⌜ r ≡ checked messages (now (bytes .entry)) ⌝ }
+{
+    message_word(read_message(bytes))
+}
+
+// An event read, and written back into out.
+#[no_mangle]
+pub extern "C" fn callcontrol_copy_event(bytes: &[u8], out: &mut [u8]) -> u32
+    ensures { λ r. ⌜ _≡_ {A = ℕ × List ℕ} (r, now (out .exit)) (copied events (now (bytes .entry)) (now (out .entry))) ⌝ }
+{
+    let read = read_event(bytes);
+    let EventRead::Is(event) = read else {
+        return event_word(read);
+    };
+    written_word(write_event(event, out))
+}
+
+// A message read, and written back into out.
+#[no_mangle]
+pub extern "C" fn callcontrol_copy_message(bytes: &[u8], out: &mut [u8]) -> u32
+    ensures { λ r. ⌜ _≡_ {A = ℕ × List ℕ} (r, now (out .exit)) (copied messages (now (bytes .entry)) (now (out .entry))) ⌝ }
+{
+    let read = read_message(bytes);
+    let MessageRead::Is(message) = read else {
+        return message_word(read);
+    };
+    written_word(write_message(message, out))
+}
