@@ -1,0 +1,238 @@
+/*
+ * Call control (CC) of one individual circuit mode call in a TETRA mobile station,
+ * ETSI EN 300 392-2 clause 14.5.1: every event handed in is taken or refused with one answer,
+ * and what it orders is written into a buffer the host lends.
+ *
+ * The library holds nothing: a call is 21 bytes in the hands of the host. No function allocates,
+ * keeps a pointer after it returns, or reads or writes a byte beyond the lengths it is given, so
+ * any number of calls can be run side by side. Bytes that may be written must not overlap other
+ * bytes handed to the same function. Pointers must not be null, also where the length is 0.
+ *
+ * Every function returns answer * 65536 + count of bytes written.
+ */
+#ifndef CALLCONTROL_H
+#define CALLCONTROL_H
+
+#include <stddef.h>
+#include <stdint.h>
+
+#ifdef __cplusplus
+extern "C" {
+#endif
+
+/* ---- Sizes and limits ---------------------------------------------------------------------- */
+
+#define CALLCONTROL_RECORD_SIZE 21u         /* bytes of a call record */
+#define CALLCONTROL_HEAD_SIZE 4u            /* length u16 and kind u16 before the body */
+#define CALLCONTROL_EVENT_MAX 11u           /* bytes of the longest event */
+#define CALLCONTROL_MESSAGE_MAX 11u         /* bytes of the longest message */
+#define CALLCONTROL_STEP_MAX 52u            /* the most one step writes, from any sound record */
+#define CALLCONTROL_IDENTIFIER_MAX 16383u   /* i */
+#define CALLCONTROL_ADDRESS_MAX 16777215u   /* a; 0 is unknown */
+#define CALLCONTROL_T310_CODE_MAX 15u       /* o */
+#define CALLCONTROL_T310_CODE_ABSENT 16u    /* o in D-INFO and D-CALL RESTORE: none given */
+#define CALLCONTROL_TX_INDICATION_MAX 8u    /* x */
+
+/* ---- Answers ------------------------------------------------------------------------------- */
+
+/* The lowest number that applies is given. A refusal counts 0 bytes and changes no byte. */
+enum callcontrol_answer {
+    CALLCONTROL_TAKEN = 0,           /* taken; bytes written are counted */
+    CALLCONTROL_NOT_SOUND = 1,       /* the bytes are no call record, or it is not sound */
+    CALLCONTROL_BAD_LENGTH = 2,      /* under 4 bytes, or the length field differs from them */
+    CALLCONTROL_BAD_KIND = 3,        /* no event kind (for messages: no message kind) */
+    CALLCONTROL_BAD_FIELD = 4,       /* body size or a field out of range */
+    CALLCONTROL_OTHER_CALL = 5,      /* a network event whose identifier is not the held one */
+    CALLCONTROL_NO_ROW = 6,          /* nothing is foreseen for this event in this state */
+    CALLCONTROL_BUFFER_TOO_SHORT = 7 /* the messages are longer than the lent buffer */
+};
+
+/* ---- The call record ----------------------------------------------------------------------- */
+
+/* Offsets of the fields; numbers of more than one byte are little-endian. */
+enum callcontrol_field {
+    CALLCONTROL_AT_STATE = 0,
+    CALLCONTROL_AT_IDENTIFIER = 1, /* u16 */
+    CALLCONTROL_AT_ADDRESS = 3,    /* u32 */
+    CALLCONTROL_AT_MODE = 7,
+    CALLCONTROL_AT_ASKED = 8,
+    CALLCONTROL_AT_SENT = 9,
+    CALLCONTROL_AT_PATH = 10,
+    CALLCONTROL_AT_PLANE = 11,
+    CALLCONTROL_AT_KEPT_PLANE = 12,
+    CALLCONTROL_AT_T310_CODE = 13,
+    CALLCONTROL_AT_T301 = 14, /* the timers, each 0 or 1 */
+    CALLCONTROL_AT_T302 = 15,
+    CALLCONTROL_AT_T303 = 16,
+    CALLCONTROL_AT_T306 = 17,
+    CALLCONTROL_AT_T308 = 18,
+    CALLCONTROL_AT_T310 = 19,
+    CALLCONTROL_AT_T311 = 20
+};
+
+enum callcontrol_state {
+    CALLCONTROL_IDLE = 0,
+    CALLCONTROL_MO_CALL_SETUP = 1,
+    CALLCONTROL_MT_CALL_SETUP = 2,
+    CALLCONTROL_CALL_ACTIVE = 3,
+    CALLCONTROL_WAIT = 4,
+    CALLCONTROL_CALL_DISCONNECT = 5
+};
+
+enum callcontrol_path {
+    CALLCONTROL_PATH_UP = 0,
+    CALLCONTROL_PATH_BROKEN = 1,
+    CALLCONTROL_PATH_RESTORING = 2
+};
+
+/* ---- Values of the letters ----------------------------------------------------------------- */
+
+enum callcontrol_mode { /* d */
+    CALLCONTROL_SIMPLEX = 0,
+    CALLCONTROL_DUPLEX = 1
+};
+
+enum callcontrol_grant { /* g */
+    CALLCONTROL_GRANTED = 0,
+    CALLCONTROL_NOT_GRANTED = 1,
+    CALLCONTROL_QUEUED = 2,
+    CALLCONTROL_GRANTED_TO_ANOTHER = 3
+};
+
+enum callcontrol_cause { /* c */
+    CALLCONTROL_CAUSE_USER = 1,
+    CALLCONTROL_CAUSE_TIMER = 2,
+    CALLCONTROL_CAUSE_NETWORK = 3,
+    CALLCONTROL_CAUSE_TRANSFER_FAILED = 4
+};
+
+enum callcontrol_plane { /* p */
+    CALLCONTROL_PLANE_TRANSMIT = 1,
+    CALLCONTROL_PLANE_RECEIVE = 2,
+    CALLCONTROL_PLANE_TRANSMIT_AND_RECEIVE = 3,
+    CALLCONTROL_PLANE_OFF = 4
+};
+
+/* x of TX indication; below 4 it is the grant. */
+enum callcontrol_tx_indication {
+    CALLCONTROL_TX_CEASED = 4,
+    CALLCONTROL_TX_INTERRUPTED = 5,
+    CALLCONTROL_TX_WAIT = 6,
+    CALLCONTROL_TX_CONTINUED = 7,     /* with the plane kept in the pause */
+    CALLCONTROL_TX_CONTINUED_OFF = 8  /* without it */
+};
+
+enum callcontrol_timer { /* n */
+    CALLCONTROL_T301 = 301,
+    CALLCONTROL_T302 = 302,
+    CALLCONTROL_T303 = 303,
+    CALLCONTROL_T306 = 306,
+    CALLCONTROL_T308 = 308,
+    CALLCONTROL_T310 = 310,
+    CALLCONTROL_T311 = 311
+};
+
+/* ---- Kinds of records, with the letters of their bodies ------------------------------------ */
+
+enum callcontrol_event_kind {
+    CALLCONTROL_SETUP_REQUEST = 0x0101, /* a d q */
+    CALLCONTROL_SETUP_RESPONSE = 0x0102,
+    CALLCONTROL_RELEASE_REQUEST = 0x0103,
+    CALLCONTROL_TX_REQUEST = 0x0104,     /* k: 1 demand, 0 cease */
+    CALLCONTROL_MODIFY_REQUEST = 0x0105, /* d */
+
+    CALLCONTROL_D_CALL_PROCEEDING = 0x0201,     /* i */
+    CALLCONTROL_D_ALERT = 0x0202,               /* i */
+    CALLCONTROL_D_CONNECT = 0x0203,             /* i g d o */
+    CALLCONTROL_D_CONNECT_ACKNOWLEDGE = 0x0204, /* i g o */
+    CALLCONTROL_D_SETUP = 0x0205,               /* i a d */
+    CALLCONTROL_D_INFO = 0x0206,                /* i r o d */
+    CALLCONTROL_D_TX_GRANTED = 0x0207,          /* i g */
+    CALLCONTROL_D_TX_CEASED = 0x0208,           /* i */
+    CALLCONTROL_D_TX_INTERRUPT = 0x0209,        /* i g */
+    CALLCONTROL_D_TX_WAIT = 0x020A,             /* i */
+    CALLCONTROL_D_TX_CONTINUE = 0x020B,         /* i k */
+    CALLCONTROL_D_CALL_RESTORE = 0x020C,        /* i g r o */
+    CALLCONTROL_D_DISCONNECT = 0x020D,          /* i, 0 allowed */
+    CALLCONTROL_D_RELEASE = 0x020E,             /* i, 0 allowed */
+
+    CALLCONTROL_REPORT_SENT = 0x0301,
+    CALLCONTROL_REPORT_FAILED = 0x0302,
+    CALLCONTROL_BREAK = 0x0303,
+    CALLCONTROL_RESUME = 0x0304,
+
+    CALLCONTROL_EXPIRY = 0x0401 /* n */
+};
+
+enum callcontrol_message_kind {
+    CALLCONTROL_U_SETUP = 0x0501,        /* a d q */
+    CALLCONTROL_U_CONNECT = 0x0502,      /* i */
+    CALLCONTROL_U_DISCONNECT = 0x0503,   /* i c, 0 is the dummy identifier */
+    CALLCONTROL_U_RELEASE = 0x0504,      /* i, 0 allowed */
+    CALLCONTROL_U_INFO = 0x0505,         /* i d */
+    CALLCONTROL_U_TX_DEMAND = 0x0506,    /* i */
+    CALLCONTROL_U_TX_CEASED = 0x0507,    /* i */
+    CALLCONTROL_U_CALL_RESTORE = 0x0508, /* i a q */
+
+    CALLCONTROL_STOP = 0x0601,      /* n */
+    CALLCONTROL_START = 0x0602,     /* n o: o is 0 but for T310 */
+    CALLCONTROL_CONFIGURE = 0x0603, /* p */
+    CALLCONTROL_CANCEL = 0x0604,
+
+    CALLCONTROL_SETUP_INDICATION = 0x0701, /* i a d */
+    CALLCONTROL_SETUP_CONFIRM = 0x0702,    /* i g */
+    CALLCONTROL_PROCEED = 0x0703,
+    CALLCONTROL_ALERT = 0x0704,
+    CALLCONTROL_COMPLETE = 0x0705,           /* g */
+    CALLCONTROL_RELEASE_INDICATION = 0x0706, /* c */
+    CALLCONTROL_RELEASE_CONFIRM = 0x0707,
+    CALLCONTROL_TX_INDICATION = 0x0708,     /* x */
+    CALLCONTROL_MODIFY_INDICATION = 0x0709  /* d */
+};
+
+/* ---- Functions ----------------------------------------------------------------------------- */
+
+/*
+ * Writes the fresh record (IDLE) and counts 21; answer 1 and nothing written if record_len is
+ * not 21.
+ */
+uint32_t callcontrol_fresh(uint8_t *record, size_t record_len);
+
+/*
+ * Takes one event: rewrites the record, writes the messages it orders to the front of out, one
+ * after another, and counts their bytes; later bytes of out stay as they are. A refusal (answers
+ * 1 to 7) leaves record and out byte for byte. CALLCONTROL_STEP_MAX bytes are always enough.
+ */
+uint32_t callcontrol_step(uint8_t *record, size_t record_len,
+                          const uint8_t *event, size_t event_len,
+                          uint8_t *out, size_t out_len);
+
+/* Reads one event record: answer 0, 2, 3 or 4, count 0. */
+uint32_t callcontrol_check_event(const uint8_t *bytes, size_t len);
+
+/* Reads one message record: answer 0, 2, 3 or 4, count 0. */
+uint32_t callcontrol_check_message(const uint8_t *bytes, size_t len);
+
+/* Reads one event record and writes it back to out: answer 0 with its length, or 2, 3, 4 or 7. */
+uint32_t callcontrol_copy_event(const uint8_t *bytes, size_t len, uint8_t *out, size_t out_len);
+
+/* Reads one message record and writes it back to out: answer 0 with its length, or 2, 3, 4 or 7. */
+uint32_t callcontrol_copy_message(const uint8_t *bytes, size_t len, uint8_t *out, size_t out_len);
+
+/* The answer in a result, one of enum callcontrol_answer. */
+static inline unsigned int callcontrol_answer_of(uint32_t result)
+{
+    return (unsigned int)(result >> 16);
+}
+
+/* The count of bytes written in a result. */
+static inline size_t callcontrol_count_of(uint32_t result)
+{
+    return (size_t)(result & 0xFFFFu);
+}
+
+#ifdef __cplusplus
+}
+#endif
+
+#endif /* CALLCONTROL_H */

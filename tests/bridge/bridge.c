@@ -1,0 +1,135 @@
+/*
+ * Calls the library for tests that run on another kind of machine and so cannot link it.
+ *
+ * Standard input is batches: a length as u32, then that many bytes of requests one after another.
+ * Each batch comes back on standard output at the same length, every call made in place: the word
+ * returned stands in the head, and all other bytes are what the call left there. So the other side
+ * can see a byte changed anywhere, in a slice or beside it. Little-endian; the same head is in
+ * src/request.rs.
+ */
+#define _GNU_SOURCE
+#include "callcontrol.h"
+#include <stdio.h>
+#include <stdlib.h>
+#include <string.h>
+#include <sys/mman.h>
+#include <unistd.h>
+
+enum { RECORD, INPUT, OUT, SLICES };
+enum { IN_PLACE, AT_START, AT_END };
+
+struct request {
+    uint32_t size; /* of this head and all that belongs to it */
+    uint8_t function;
+    uint8_t place[SLICES];
+    uint32_t word;
+    struct {
+        uint32_t at, len; /* counted from the start of the head */
+    } slice[SLICES];
+    uint32_t unused;
+};
+_Static_assert(sizeof(struct request) == 40, "as in src/request.rs");
+
+/* Blocks that may be used, each between two that may not be touched. */
+enum { BLOCK = 65536 };
+static uint8_t *island[SLICES];
+
+static void fail(const char *what)
+{
+    fprintf(stderr, "bridge: %s\n", what);
+    exit(2);
+}
+
+static void make_islands(void)
+{
+    for (int k = 0; k < SLICES; k++) {
+        uint8_t *all = mmap(NULL, 3 * BLOCK, PROT_NONE, MAP_PRIVATE | MAP_ANONYMOUS, -1, 0);
+        if (all == MAP_FAILED || mprotect(all + BLOCK, BLOCK, PROT_READ | PROT_WRITE) != 0)
+            fail("no memory");
+        island[k] = all + BLOCK;
+    }
+}
+
+static uint32_t call(unsigned function, uint8_t *const at[], const size_t len[])
+{
+    switch (function) {
+    case 0:
+        return callcontrol_fresh(at[RECORD], len[RECORD]);
+    case 1:
+        return callcontrol_step(at[RECORD], len[RECORD], at[INPUT], len[INPUT], at[OUT], len[OUT]);
+    case 2:
+        return callcontrol_check_event(at[INPUT], len[INPUT]);
+    case 3:
+        return callcontrol_check_message(at[INPUT], len[INPUT]);
+    case 4:
+        return callcontrol_copy_event(at[INPUT], len[INPUT], at[OUT], len[OUT]);
+    case 5:
+        return callcontrol_copy_message(at[INPUT], len[INPUT], at[OUT], len[OUT]);
+    }
+    fail("no such function");
+    return 0;
+}
+
+static void serve(struct request *request)
+{
+    uint8_t *home[SLICES], *lent[SLICES];
+    size_t len[SLICES];
+    for (int k = 0; k < SLICES; k++) {
+        home[k] = lent[k] = (uint8_t *)request + request->slice[k].at;
+        len[k] = request->slice[k].len;
+        if (request->place[k] != IN_PLACE) {
+            if (len[k] > BLOCK)
+                fail("too long for an island");
+            lent[k] = island[k] + (request->place[k] == AT_START ? 0 : BLOCK - len[k]);
+            memcpy(lent[k], home[k], len[k]);
+        }
+    }
+    request->word = call(request->function, lent, len);
+    for (int k = 0; k < SLICES; k++)
+        if (lent[k] != home[k])
+            memcpy(home[k], lent[k], len[k]);
+}
+
+/* Both give 0 at the end of the pipe. */
+static int read_all(void *to, size_t len)
+{
+    for (ssize_t done; len > 0; to = (uint8_t *)to + done, len -= (size_t)done)
+        if ((done = read(STDIN_FILENO, to, len)) <= 0)
+            return 0;
+    return 1;
+}
+
+static int write_all(const void *from, size_t len)
+{
+    for (ssize_t done; len > 0; from = (const uint8_t *)from + done, len -= (size_t)done)
+        if ((done = write(STDOUT_FILENO, from, len)) <= 0)
+            return 0;
+    return 1;
+}
+
+int main(void)
+{
+    uint8_t *batch = NULL;
+    size_t room = 0;
+    uint32_t len;
+
+    make_islands();
+    while (read_all(&len, sizeof len)) {
+        if (len > room) {
+            free(batch);
+            batch = malloc(room = len);
+            if (!batch)
+                fail("no memory");
+        }
+        if (!read_all(batch, len))
+            fail("a batch was cut");
+        for (uint32_t at = 0; at < len;) {
+            struct request *request = (struct request *)(batch + at);
+            at += request->size;
+            serve(request);
+        }
+        if (!write_all(batch, len))
+            return 1;
+    }
+    return 0;
+}

@@ -1,0 +1,111 @@
+//! Gives every test the library as its host gets it: one static archive, nothing else.
+//!
+//! Where the archive holds code of this machine it is linked. Elsewhere a small program, the
+//! bridge, is linked with it, and the tests call the library through that.
+
+use std::path::{Path, PathBuf};
+use std::process::Command;
+use std::{env, fs, process};
+
+fn main() {
+    println!("cargo:rustc-check-cfg=cfg(bridged)");
+    println!("cargo:rerun-if-env-changed=CALLCONTROL_LIB_DIR");
+    println!("cargo:rerun-if-env-changed=CALLCONTROL_BRIDGE");
+    println!("cargo:rerun-if-changed=build.rs");
+    let manifest = PathBuf::from(env::var_os("CARGO_MANIFEST_DIR").expect("cargo sets it"));
+    let folder = match env::var_os("CALLCONTROL_LIB_DIR") {
+        Some(folder) => PathBuf::from(folder),
+        None => manifest.join("../target/staticlib"),
+    };
+    let archive = folder.join("libhost.a");
+    println!("cargo:rerun-if-changed={}", archive.display());
+    if !archive.is_file() {
+        stop(&format!(
+            "{} is missing.\n  Run `rt staticlib host` in the repository root first,\n  \
+             or name the folder that holds libhost.a in CALLCONTROL_LIB_DIR.",
+            archive.display()
+        ));
+    }
+    let archive = archive.canonicalize().expect("it was just seen");
+    println!("cargo:rustc-env=CALLCONTROL_ARCHIVE={}", archive.display());
+
+    let own = machine_of(&archive) == this_machine();
+    let (cc, cxx, emulator) = match own {
+        true => ("gcc", "g++", ""),
+        false => ("x86_64-linux-gnu-gcc", "x86_64-linux-gnu-g++", "qemu-x86_64"),
+    };
+    println!("cargo:rustc-env=CALLCONTROL_CC={cc}");
+    println!("cargo:rustc-env=CALLCONTROL_CXX={cxx}");
+    println!("cargo:rustc-env=CALLCONTROL_EMULATOR={emulator}");
+
+    if own && env::var_os("CALLCONTROL_BRIDGE").is_none() {
+        let folder = archive.parent().expect("a file lies in a folder");
+        println!("cargo:rustc-link-search=native={}", folder.display());
+        println!("cargo:rustc-link-lib=static=host");
+    } else {
+        for tool in [cc, emulator] {
+            if !tool.is_empty() && Command::new(tool).arg("--version").output().is_err() {
+                stop(&format!("{tool} is missing.\n  {}", what_to_install(own)));
+            }
+        }
+        let program = build_bridge(cc, &manifest, &archive, own);
+        println!("cargo:rustc-cfg=bridged");
+        println!("cargo:rustc-env=CALLCONTROL_BRIDGE_PROGRAM={}", program.display());
+    }
+}
+
+fn build_bridge(cc: &str, manifest: &Path, archive: &Path, own: bool) -> PathBuf {
+    let source = manifest.join("bridge/bridge.c");
+    let include = manifest.join("../include");
+    println!("cargo:rerun-if-changed={}", source.display());
+    println!("cargo:rerun-if-changed={}", include.join("callcontrol.h").display());
+    let program = PathBuf::from(env::var_os("OUT_DIR").expect("cargo sets it")).join("bridge");
+    let output = Command::new(cc)
+        .args(["-std=c11", "-O2", "-Wall", "-Wextra", "-static", "-I"])
+        .arg(include)
+        .arg(source)
+        .arg(archive)
+        .arg("-o")
+        .arg(&program)
+        .output()
+        .expect("it was just seen to start");
+    if !output.status.success() {
+        stop(&format!(
+            "{cc} cannot build the bridge to the library:\n\n{}\n  If something of the C library \
+             is missing:\n  {}",
+            String::from_utf8_lossy(&output.stderr),
+            what_to_install(own)
+        ));
+    }
+    program
+}
+
+fn what_to_install(own: bool) -> &'static str {
+    if own {
+        "apt-get install gcc g++"
+    } else {
+        "The library is x86-64 code, which this machine needs other tools for:\n  \
+         apt-get install gcc-x86-64-linux-gnu g++-x86-64-linux-gnu qemu-user\n  \
+         or run tests/needs.sh, which does that."
+    }
+}
+
+/// The machine that code in the archive is for, as ELF numbers machines.
+fn machine_of(archive: &Path) -> u16 {
+    let bytes = fs::read(archive).expect("the archive can be read");
+    let object = bytes.windows(20).find(|bytes| bytes.starts_with(b"\x7FELF"));
+    object.map_or(0, |head| u16::from_le_bytes([head[18], head[19]]))
+}
+
+fn this_machine() -> u16 {
+    match env::var("CARGO_CFG_TARGET_ARCH").as_deref() {
+        Ok("x86_64") => 62,
+        Ok("aarch64") => 183,
+        _ => u16::MAX,
+    }
+}
+
+fn stop(message: &str) -> ! {
+    eprintln!("\n  {message}\n");
+    process::exit(1);
+}

@@ -1,0 +1,47 @@
+//! The events that are measured.
+
+use callcontrol_tests::account::Call;
+use callcontrol_tests::generate::{damaged_event, event, likely_event, Bytes, Random};
+
+pub const EVENTS: usize = 16_384;
+pub const OUT_LEN: usize = 64;
+
+/// Event records one after another, as they would come from a queue.
+pub struct Tape {
+    bytes: Vec<u8>,
+    ends: Vec<usize>,
+}
+
+impl Tape {
+    pub fn events(&self) -> impl Iterator<Item = &[u8]> {
+        let mut start = 0;
+        self.ends.iter().map(move |&end| {
+            let event = &self.bytes[start..end];
+            start = end;
+            event
+        })
+    }
+}
+
+/// Calls set up, granted, paused, broken, restored and released, one after another from fresh;
+/// about one event in ten is none of theirs, or damaged.
+pub fn tape() -> Tape {
+    let mut random = Random::new(0x7A9E);
+    let mut tape = Tape { bytes: Vec::new(), ends: Vec::new() };
+    let mut call = Call::FRESH;
+    for _ in 0..EVENTS {
+        let bytes = match random.below(40) {
+            0 => {
+                let event = event(&mut random, call.identifier);
+                damaged_event(&mut random, event)
+            }
+            1 => Bytes::of_event(event(&mut random, call.identifier ^ 1)),
+            2 | 3 => Bytes::of_event(event(&mut random, call.identifier)),
+            _ => Bytes::of_event(likely_event(&mut random, &call, 20)),
+        };
+        let _ = call.step(bytes.as_slice(), &mut [0; OUT_LEN]);
+        tape.bytes.extend(bytes.as_slice());
+        tape.ends.push(tape.bytes.len());
+    }
+    tape
+}

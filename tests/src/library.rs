@@ -1,0 +1,32 @@
+//! The library under test, as its C host sees it: six functions over lent bytes.
+//!
+//! Nothing here knows the paper. Where the archive holds code of this machine it is linked, and
+//! the functions are called directly. Elsewhere the same functions go over a bridge: a small
+//! program for the library's machine, run by an emulator, that makes the calls.
+
+#[cfg(bridged)]
+mod bridge;
+#[cfg(not(bridged))]
+mod direct;
+
+#[cfg(bridged)]
+use bridge as way;
+#[cfg(not(bridged))]
+use direct as way;
+
+pub use way::{check_event, check_message, copy_event, copy_message, fresh, perform, step};
+
+/// The bare step, for measurements that must call it without a wrapper between.
+#[cfg(not(bridged))]
+pub use direct::callcontrol_step;
+
+/// Whether a call is so slow that many should be made at once, by [`perform`].
+pub const BRIDGED: bool = cfg!(bridged);
+
+/// The archive these functions are from.
+pub const ARCHIVE: &str = env!("CALLCONTROL_ARCHIVE");
+
+/// Splits a result into answer and count of bytes written.
+pub fn split(word: u32) -> (u32, u32) {
+    (word >> 16, word & 0xFFFF)
+}

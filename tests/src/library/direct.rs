@@ -1,0 +1,165 @@
+//! The library linked into this process.
+
+use crate::request::{self, Function, Place, BLOCK, INPUT, OUT, RECORD};
+use std::ffi::c_void;
+
+mod exported {
+    extern "C" {
+        pub fn callcontrol_fresh(record: *mut u8, record_len: usize) -> u32;
+        pub fn callcontrol_step(
+            record: *mut u8,
+            record_len: usize,
+            event: *const u8,
+            event_len: usize,
+            out: *mut u8,
+            out_len: usize,
+        ) -> u32;
+        pub fn callcontrol_check_event(bytes: *const u8, len: usize) -> u32;
+        pub fn callcontrol_check_message(bytes: *const u8, len: usize) -> u32;
+        pub fn callcontrol_copy_event(
+            bytes: *const u8,
+            len: usize,
+            out: *mut u8,
+            out_len: usize,
+        ) -> u32;
+        pub fn callcontrol_copy_message(
+            bytes: *const u8,
+            len: usize,
+            out: *mut u8,
+            out_len: usize,
+        ) -> u32;
+    }
+}
+
+pub use exported::callcontrol_step;
+
+// Each call below is sound for the same reason: pointer and length come from one slice, a slice
+// that may be written is borrowed alone, and the library keeps no pointer after it returns.
+
+pub fn fresh(record: &mut [u8]) -> u32 {
+    unsafe { exported::callcontrol_fresh(record.as_mut_ptr(), record.len()) }
+}
+
+#[inline]
+pub fn step(record: &mut [u8], event: &[u8], out: &mut [u8]) -> u32 {
+    unsafe {
+        exported::callcontrol_step(
+            record.as_mut_ptr(),
+            record.len(),
+            event.as_ptr(),
+            event.len(),
+            out.as_mut_ptr(),
+            out.len(),
+        )
+    }
+}
+
+pub fn check_event(bytes: &[u8]) -> u32 {
+    unsafe { exported::callcontrol_check_event(bytes.as_ptr(), bytes.len()) }
+}
+
+pub fn check_message(bytes: &[u8]) -> u32 {
+    unsafe { exported::callcontrol_check_message(bytes.as_ptr(), bytes.len()) }
+}
+
+pub fn copy_event(bytes: &[u8], out: &mut [u8]) -> u32 {
+    unsafe {
+        exported::callcontrol_copy_event(bytes.as_ptr(), bytes.len(), out.as_mut_ptr(), out.len())
+    }
+}
+
+pub fn copy_message(bytes: &[u8], out: &mut [u8]) -> u32 {
+    unsafe {
+        exported::callcontrol_copy_message(bytes.as_ptr(), bytes.len(), out.as_mut_ptr(), out.len())
+    }
+}
+
+/// Makes the calls of a batch; `done` becomes the batch after them.
+pub fn perform(batch: &[u8], done: &mut Vec<u8>) {
+    done.clear();
+    done.extend_from_slice(batch);
+    let mut rest = &mut done[..];
+    for frame in request::each(batch) {
+        let (frame, after) = std::mem::take(&mut rest).split_at_mut(frame.len());
+        rest = after;
+        let places = [RECORD, INPUT, OUT].map(|slice| request::place(frame, slice));
+        let function = request::function(frame);
+        let home = request::slices_mut(frame);
+        let word = if places == [Place::Between; 3] {
+            call(function, home)
+        } else {
+            ISLANDS.with_borrow_mut(|islands| {
+                let [record, input, out] = islands;
+                let mut lent = [
+                    record.lend(home[RECORD], places[RECORD]),
+                    input.lend(home[INPUT], places[INPUT]),
+                    out.lend(home[OUT], places[OUT]),
+                ];
+                let word = call(function, lent.each_mut().map(|slice| &mut **slice));
+                for (home, lent) in home.into_iter().zip(lent) {
+                    home.copy_from_slice(lent);
+                }
+                word
+            })
+        };
+        request::set_word(frame, word);
+    }
+}
+
+fn call(function: Function, [record, input, out]: [&mut [u8]; 3]) -> u32 {
+    match function {
+        Function::Fresh => fresh(record),
+        Function::Step => step(record, input, out),
+        Function::CheckEvent => check_event(input),
+        Function::CheckMessage => check_message(input),
+        Function::CopyEvent => copy_event(input, out),
+        Function::CopyMessage => copy_message(input, out),
+    }
+}
+
+thread_local! {
+    static ISLANDS: std::cell::RefCell<[Island; 3]> =
+        std::cell::RefCell::new([Island::new(), Island::new(), Island::new()]);
+}
+
+/// A block that may be used between two that may not be touched.
+struct Island {
+    start: *mut u8,
+}
+
+extern "C" {
+    fn mmap(
+        at: *mut c_void,
+        len: usize,
+        access: i32,
+        flags: i32,
+        file: i32,
+        off: i64,
+    ) -> *mut c_void;
+    fn mprotect(at: *mut c_void, len: usize, access: i32) -> i32;
+}
+
+const NONE: i32 = 0;
+const READ_WRITE: i32 = 1 | 2;
+const PRIVATE_ANONYMOUS: i32 = 0x02 | 0x20;
+
+impl Island {
+    fn new() -> Island {
+        unsafe {
+            let all = mmap(std::ptr::null_mut(), 3 * BLOCK, NONE, PRIVATE_ANONYMOUS, -1, 0);
+            assert_ne!(all as isize, -1, "no memory");
+            let start = all.byte_add(BLOCK);
+            assert_eq!(mprotect(start, BLOCK, READ_WRITE), 0);
+            Island { start: start.cast() }
+        }
+    }
+
+    /// A copy of these bytes at one of the two shores.
+    fn lend(&mut self, bytes: &[u8], place: Place) -> &mut [u8] {
+        assert!(bytes.len() <= BLOCK);
+        let start = if place == Place::AtEnd { BLOCK - bytes.len() } else { 0 };
+        let lent = unsafe { std::slice::from_raw_parts_mut(self.start.add(start), bytes.len()) };
+        lent.copy_from_slice(bytes);
+        lent
+    }
+}

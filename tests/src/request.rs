@@ -1,0 +1,239 @@
+//! One call of the library as bytes: a head, then the three slices that may be lent, each between
+//! guard bytes. `bridge/bridge.c` has the same head.
+
+use std::fmt::Write;
+
+#[derive(Clone, Copy, Debug, PartialEq, Eq)]
+#[repr(u8)]
+pub enum Function {
+    Fresh,
+    Step,
+    CheckEvent,
+    CheckMessage,
+    CopyEvent,
+    CopyMessage,
+}
+
+impl Function {
+    pub const ALL: [Function; 6] = [
+        Function::Fresh,
+        Function::Step,
+        Function::CheckEvent,
+        Function::CheckMessage,
+        Function::CopyEvent,
+        Function::CopyMessage,
+    ];
+}
+
+/// Where a slice lies while the library has it.
+#[derive(Clone, Copy, Debug, PartialEq, Eq)]
+#[repr(u8)]
+pub enum Place {
+    /// Where it is, between its guard bytes.
+    Between,
+    /// Its first byte is the first after memory that may not be touched at all.
+    AtStart,
+    /// Its last byte is the last before such memory.
+    AtEnd,
+}
+
+/// A slice at a place other than [`Place::Between`] is at most this long. A multiple of every page
+/// size in use.
+pub const BLOCK: usize = 65536;
+
+/// Which of the three slices.
+pub const RECORD: usize = 0;
+pub const INPUT: usize = 1;
+pub const OUT: usize = 2;
+
+/// What is asked of the library. A function that takes no record, input or buffer gets none of it.
+#[derive(Clone, Copy)]
+pub struct Request<'a> {
+    pub function: Function,
+    pub record: &'a [u8],
+    /// The event or message.
+    pub input: &'a [u8],
+    pub out_len: usize,
+    /// What the guard bytes and the buffer hold before.
+    pub filler: u8,
+    pub places: [Place; 3],
+}
+
+impl<'a> Request<'a> {
+    pub fn fresh(record: &'a [u8], filler: u8) -> Request<'a> {
+        Request::of(Function::Fresh, record, &[], 0, filler)
+    }
+
+    pub fn step(record: &'a [u8], event: &'a [u8], out_len: usize, filler: u8) -> Request<'a> {
+        Request::of(Function::Step, record, event, out_len, filler)
+    }
+
+    /// One of the readers.
+    pub fn check(function: Function, bytes: &'a [u8], filler: u8) -> Request<'a> {
+        Request::of(function, &[], bytes, 0, filler)
+    }
+
+    /// One of the writers.
+    pub fn copy(function: Function, bytes: &'a [u8], out_len: usize, filler: u8) -> Request<'a> {
+        Request::of(function, &[], bytes, out_len, filler)
+    }
+
+    fn of(
+        function: Function,
+        record: &'a [u8],
+        input: &'a [u8],
+        out_len: usize,
+        filler: u8,
+    ) -> Request<'a> {
+        Request { function, record, input, out_len, filler, places: [Place::Between; 3] }
+    }
+
+    pub fn at(self, places: [Place; 3]) -> Request<'a> {
+        Request { places, ..self }
+    }
+
+    /// Writes it behind what is in the batch.
+    pub fn push(&self, batch: &mut Vec<u8>) {
+        let lens = [self.record.len(), self.input.len(), self.out_len];
+        assert!(self.places == [Place::Between; 3] || lens.iter().all(|&len| len <= BLOCK));
+        // So that lent bytes do not always begin at the same alignment.
+        let mut end = HEAD + self.filler as usize % 8;
+        let starts = lens.map(|len| {
+            let start = end + GUARD;
+            end = start + len;
+            start
+        });
+        let size = (end + GUARD).next_multiple_of(8);
+
+        let begin = batch.len();
+        batch.resize(begin + size, self.filler);
+        let frame = &mut batch[begin..];
+        frame[..HEAD].fill(0);
+        put(frame, 0, size);
+        frame[4] = self.function as u8;
+        for slice in 0..3 {
+            frame[5 + slice] = self.places[slice] as u8;
+            put(frame, 12 + 8 * slice, starts[slice]);
+            put(frame, 16 + 8 * slice, lens[slice]);
+        }
+        frame[starts[RECORD]..][..lens[RECORD]].copy_from_slice(self.record);
+        frame[starts[INPUT]..][..lens[INPUT]].copy_from_slice(self.input);
+    }
+}
+
+const HEAD: usize = 40;
+const GUARD: usize = 24;
+
+fn put(frame: &mut [u8], at: usize, number: usize) {
+    let number = u32::try_from(number).expect("lengths are small");
+    frame[at..at + 4].copy_from_slice(&number.to_le_bytes());
+}
+
+fn get(frame: &[u8], at: usize) -> usize {
+    u32::from_le_bytes(frame[at..at + 4].try_into().expect("four bytes")) as usize
+}
+
+// What follows takes a request as it stands in a batch: before it was made, after, or as it should
+// be after.
+
+/// The requests of a batch, one by one.
+pub fn each(batch: &[u8]) -> impl Iterator<Item = &[u8]> {
+    let mut rest = batch;
+    std::iter::from_fn(move || {
+        let (frame, after) =
+            rest.split_at(if rest.is_empty() { return None } else { get(rest, 0) });
+        rest = after;
+        Some(frame)
+    })
+}
+
+pub fn function(frame: &[u8]) -> Function {
+    Function::ALL[frame[4] as usize]
+}
+
+pub fn place(frame: &[u8], slice: usize) -> Place {
+    match frame[5 + slice] {
+        0 => Place::Between,
+        1 => Place::AtStart,
+        _ => Place::AtEnd,
+    }
+}
+
+pub fn word(frame: &[u8]) -> u32 {
+    get(frame, 8) as u32
+}
+
+pub fn set_word(frame: &mut [u8], word: u32) {
+    put(frame, 8, word as usize);
+}
+
+pub fn slice(frame: &[u8], slice: usize) -> &[u8] {
+    &frame[get(frame, 12 + 8 * slice)..][..get(frame, 16 + 8 * slice)]
+}
+
+/// Record, input and buffer.
+pub fn slices_mut(frame: &mut [u8]) -> [&mut [u8]; 3] {
+    let places =
+        [RECORD, INPUT, OUT].map(|slice| (get(frame, 12 + 8 * slice), get(frame, 16 + 8 * slice)));
+    let (mut passed, mut rest) = (0, frame);
+    places.map(|(start, len)| {
+        let (slice, after) = std::mem::take(&mut rest)[start - passed..].split_at_mut(len);
+        (passed, rest) = (start + len, after);
+        slice
+    })
+}
+
+/// All but the word.
+pub fn same_bytes(one: &[u8], other: &[u8]) -> bool {
+    one[..8] == other[..8] && one[12..] == other[12..]
+}
+
+/// What was asked, for messages of failed tests.
+pub fn describe(frame: &[u8]) -> String {
+    format!(
+        "{:?}\n  record   {}\n  input    {}\n  buffer   {} bytes",
+        function(frame),
+        hex(slice(frame, RECORD)),
+        hex(slice(frame, INPUT)),
+        slice(frame, OUT).len()
+    )
+}
+
+/// How what the library did differs from what was expected.
+pub fn difference(before: &[u8], done: &[u8], said: &[u8]) -> String {
+    let result = |frame| {
+        format!(
+            "answer {} count {}\n    record {}\n    buffer {}",
+            word(frame) >> 16,
+            word(frame) & 0xFFFF,
+            hex(slice(frame, RECORD)),
+            hex(slice(frame, OUT))
+        )
+    };
+    // Head, guards and input may not change: put what may change back, and compare.
+    let mut rest = done.to_vec();
+    for which in [RECORD, OUT] {
+        let kept = slice(before, which).to_vec();
+        let start = get(before, 12 + 8 * which);
+        rest[start..start + kept.len()].copy_from_slice(&kept);
+    }
+    let around = if same_bytes(&rest, before) { "kept" } else { "CHANGED" };
+    format!(
+        "{}\n  library  {}\n  expected {}\n  input and bytes around the lent ones: {around}",
+        describe(before),
+        result(done),
+        result(said),
+    )
+}
+
+/// Bytes as two-digit hex, the first few of them.
+pub fn hex(bytes: &[u8]) -> String {
+    let mut text = String::new();
+    for byte in &bytes[..bytes.len().min(128)] {
+        let _ = write!(text, "{byte:02x} ");
+    }
+    if bytes.len() > 128 {
+        let _ = write!(text, "... {} bytes", bytes.len());
+    }
+    text
+}

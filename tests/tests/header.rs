@@ -1,0 +1,116 @@
+//! The C header can be included as strict C11 and as strict C++17, and its numbers are the
+//! library's.
+
+use callcontrol_tests::account::boundary;
+use callcontrol_tests::histories::root;
+use callcontrol_tests::programs::{build, run, CC, CXX};
+use callcontrol_tests::request::{Function, Request};
+use callcontrol_tests::sidebyside::Queue;
+use std::collections::BTreeSet;
+use std::fs;
+use std::ops::RangeInclusive;
+use std::path::Path;
+
+const STRICT: [&str; 5] = ["-Wall", "-Wextra", "-Wpedantic", "-Werror", "-Wconversion"];
+
+/// Compiles, links with the library, and runs.
+fn builds_and_runs(compiler: &str, language: &[&str], name: &str) {
+    let program = Path::new(env!("CARGO_TARGET_TMPDIR")).join(name);
+    let complaints =
+        build(compiler, &[language, &STRICT].concat(), "tests/c/uses_header.c", &program);
+    assert_eq!(complaints, "", "{compiler} says something");
+    let status = run(&program).status().expect("what was built can be run");
+    assert!(status.success(), "{name}: {status}");
+}
+
+#[test]
+fn the_header_is_strict_c11() {
+    builds_and_runs(CC, &["-std=c11"], "uses_header_c11");
+}
+
+#[test]
+fn the_header_is_strict_cpp17() {
+    builds_and_runs(CXX, &["-x", "c++", "-std=c++17"], "uses_header_cpp17");
+}
+
+/// Name and value of every enumerator in one enum of the header.
+fn enumerators(tag: &str) -> Vec<(String, u32)> {
+    let header = fs::read_to_string(root().join("include/callcontrol.h")).expect("the header");
+    let start = header.find(&format!("enum {tag} {{")).unwrap_or_else(|| panic!("no enum {tag}"));
+    let body = header[start..].split('}').next().expect("an end");
+    body.lines()
+        .skip(1)
+        .filter_map(|line| line.split_once('='))
+        .map(|(name, rest)| {
+            let value = rest.trim().split([',', ' ']).next().expect("a value");
+            let value = match value.strip_prefix("0x") {
+                Some(hex) => u32::from_str_radix(hex, 16),
+                None => value.parse(),
+            };
+            (name.trim().to_owned(), value.expect("a number"))
+        })
+        .collect()
+}
+
+/// The numbers whose record the library's reader answers so.
+fn answered(
+    reader: Function,
+    so: fn(u32) -> bool,
+    numbers: RangeInclusive<u32>,
+    record: fn(u32) -> Vec<u8>,
+) -> BTreeSet<u32> {
+    let mut queue = Queue::new();
+    let answered = numbers
+        .filter(|&number| {
+            let record = record(number);
+            let check = Request::check(reader, &record, number as u8);
+            let said = queue.check(&check, |_, bytes, _| match reader {
+                Function::CheckEvent => boundary::check_event(bytes),
+                _ => boundary::check_message(bytes),
+            });
+            so(said.answer)
+        })
+        .collect();
+    queue.finish();
+    answered
+}
+
+#[test]
+fn the_headers_kinds_are_the_librarys_kinds() {
+    let tables = [
+        ("callcontrol_event_kind", Function::CheckEvent),
+        ("callcontrol_message_kind", Function::CheckMessage),
+    ];
+    for (tag, check) in tables {
+        let named: BTreeSet<u32> = enumerators(tag).into_iter().map(|(_, kind)| kind).collect();
+        let known = answered(
+            check,
+            |answer| answer != 3,
+            0..=0xFFFF,
+            |kind| vec![4, 0, kind as u8, (kind >> 8) as u8],
+        );
+        assert_eq!(named, known, "{tag}");
+    }
+}
+
+#[test]
+fn the_headers_timers_and_planes_are_the_librarys() {
+    let timers: BTreeSet<u32> =
+        enumerators("callcontrol_timer").into_iter().map(|(_, number)| number).collect();
+    let known = answered(
+        Function::CheckEvent,
+        |answer| answer == 0,
+        0..=0xFFFF,
+        |n| vec![6, 0, 0x01, 0x04, n as u8, (n >> 8) as u8],
+    );
+    assert_eq!(timers, known);
+    let planes: BTreeSet<u32> =
+        enumerators("callcontrol_plane").into_iter().map(|(_, number)| number).collect();
+    let known = answered(
+        Function::CheckMessage,
+        |answer| answer == 0,
+        0..=255,
+        |p| vec![5, 0, 0x03, 0x06, p as u8],
+    );
+    assert_eq!(planes, known);
+}

@@ -1,0 +1,448 @@
+//! Readers and writers: every record in range is read and written back as it was, and every
+//! length, kind, body size or field out of range gives its answer and changes no byte.
+
+use callcontrol_tests::account::boundary;
+use callcontrol_tests::generate::{self, Bytes, Random};
+use callcontrol_tests::request::{Function, Request};
+use callcontrol_tests::sidebyside::{tell, Queue};
+
+/// The letters of a body, with their sizes and ranges, taken from the paper a second time: as a
+/// table, apart from the account's readers.
+#[derive(Clone, Copy, PartialEq)]
+enum Letter {
+    /// i, 1..16383.
+    I,
+    /// i where 0 is allowed.
+    I0,
+    /// a, where 0 is refused.
+    A,
+    /// a, 0 for unknown.
+    A0,
+    /// g.
+    G,
+    /// d, q, r or k.
+    Bit,
+    /// o.
+    O,
+    /// o, or 16 for absent.
+    O16,
+    /// n.
+    N,
+    /// n and o of START: o is 0 but for T310.
+    NO,
+    C,
+    P,
+    X,
+}
+
+use Letter::*;
+
+const TIMERS: [u64; 7] = [301, 302, 303, 306, 308, 310, 311];
+
+impl Letter {
+    fn size(self) -> usize {
+        match self {
+            A | A0 => 4,
+            I | I0 | N => 2,
+            NO => 3,
+            _ => 1,
+        }
+    }
+
+    fn allows(self, value: u64) -> bool {
+        match self {
+            I => (1..=16383).contains(&value),
+            I0 => value <= 16383,
+            A => (1..=16_777_215).contains(&value),
+            A0 => value <= 16_777_215,
+            G => value <= 3,
+            Bit => value <= 1,
+            O => value <= 15,
+            O16 => value <= 16,
+            N => TIMERS.contains(&value),
+            NO => {
+                let (n, o) = (value & 0xFFFF, value >> 16);
+                TIMERS.contains(&n) && o <= if n == 310 { 15 } else { 0 }
+            }
+            C | P => (1..=4).contains(&value),
+            X => value <= 8,
+        }
+    }
+
+    /// Values at and around every edge of the range, in and out of it.
+    fn edges(self) -> Vec<u64> {
+        match self {
+            I | I0 => vec![0, 1, 2, 255, 256, 16382, 16383, 16384, 16385, 32768, 65535],
+            A | A0 => vec![
+                0,
+                1,
+                2,
+                255,
+                256,
+                65535,
+                65536,
+                16_777_214,
+                16_777_215,
+                16_777_216,
+                16_777_217,
+                0x8000_0000,
+                0xFFFF_FFFF,
+            ],
+            N => (0..=65535).filter(|n| *n < 2 || *n > 65533 || (290..=330).contains(n)).collect(),
+            NO => {
+                let mut edges = Vec::new();
+                for n in [0, 300, 301, 302, 303, 304, 305, 306, 307, 308, 309, 310, 311, 312, 65535]
+                {
+                    for o in [0, 1, 2, 14, 15, 16, 17, 128, 255] {
+                        edges.push(n | o << 16);
+                    }
+                }
+                edges
+            }
+            _ => (0..=255).collect(),
+        }
+    }
+}
+
+#[rustfmt::skip]
+const EVENTS: &[(u16, &[Letter])] = &[
+    (0x0101, &[A, Bit, Bit]), (0x0102, &[]), (0x0103, &[]), (0x0104, &[Bit]), (0x0105, &[Bit]),
+    (0x0201, &[I]), (0x0202, &[I]), (0x0203, &[I, G, Bit, O]), (0x0204, &[I, G, O]),
+    (0x0205, &[I, A0, Bit]), (0x0206, &[I, Bit, O16, Bit]), (0x0207, &[I, G]), (0x0208, &[I]),
+    (0x0209, &[I, G]), (0x020A, &[I]), (0x020B, &[I, Bit]), (0x020C, &[I, G, Bit, O16]),
+    (0x020D, &[I0]), (0x020E, &[I0]),
+    (0x0301, &[]), (0x0302, &[]), (0x0303, &[]), (0x0304, &[]),
+    (0x0401, &[N]),
+];
+
+#[rustfmt::skip]
+const MESSAGES: &[(u16, &[Letter])] = &[
+    (0x0501, &[A, Bit, Bit]), (0x0502, &[I]), (0x0503, &[I0, C]), (0x0504, &[I0]),
+    (0x0505, &[I, Bit]), (0x0506, &[I]), (0x0507, &[I]), (0x0508, &[I, A0, Bit]),
+    (0x0601, &[N]), (0x0602, &[NO]), (0x0603, &[P]), (0x0604, &[]),
+    (0x0701, &[I, A0, Bit]), (0x0702, &[I, G]), (0x0703, &[]), (0x0704, &[]), (0x0705, &[G]),
+    (0x0706, &[C]), (0x0707, &[]), (0x0708, &[X]), (0x0709, &[Bit]),
+];
+
+/// One of the two readers with its writer, library and account.
+struct Side {
+    name: &'static str,
+    kinds: &'static [(u16, &'static [Letter])],
+    check: Function,
+    copy: Function,
+    account_check: fn(&[u8]) -> u32,
+    account_copy: fn(&[u8], &mut [u8]) -> u32,
+}
+
+const SIDES: [Side; 2] = [
+    Side {
+        name: "event",
+        kinds: EVENTS,
+        check: Function::CheckEvent,
+        copy: Function::CopyEvent,
+        account_check: boundary::check_event,
+        account_copy: boundary::copy_event,
+    },
+    Side {
+        name: "message",
+        kinds: MESSAGES,
+        check: Function::CheckMessage,
+        copy: Function::CopyMessage,
+        account_check: boundary::check_message,
+        account_copy: boundary::copy_message,
+    },
+];
+
+impl Side {
+    /// Hands `bytes` to the library's reader and, with every length of buffer that matters, to
+    /// its writer, and compares with `answer` and with the account.
+    fn expect(&self, queue: &mut Queue, bytes: &[u8], answer: u32) {
+        let filler = 0xC3u8.wrapping_add(bytes.len() as u8);
+        self.expect_of_reader(queue, bytes, answer);
+        let longest = if answer == 0 { bytes.len() + 2 } else { 12 };
+        for out_len in 0..=longest {
+            queue.check(&Request::copy(self.copy, bytes, out_len, filler), |_, bytes, out| {
+                let mut said = out.to_vec();
+                let word = match answer {
+                    0 if out_len >= bytes.len() => {
+                        out[..bytes.len()].copy_from_slice(bytes);
+                        bytes.len() as u32
+                    }
+                    0 => 7 << 16,
+                    refusal => refusal << 16,
+                };
+                assert_eq!((self.account_copy)(bytes, &mut said), word, "account's {}", self.name);
+                assert_eq!(said, out, "account's copy of {}", self.name);
+                word
+            });
+        }
+    }
+
+    fn expect_of_reader(&self, queue: &mut Queue, bytes: &[u8], answer: u32) {
+        let filler = 0xC3u8.wrapping_add(bytes.len() as u8);
+        queue.check(&Request::check(self.check, bytes, filler), |_, bytes, _| {
+            assert_eq!((self.account_check)(bytes), answer << 16, "account's {}", self.name);
+            answer << 16
+        });
+    }
+}
+
+fn record(kind: u16, letters: &[Letter], values: &[u64]) -> Vec<u8> {
+    let mut bytes = vec![0, 0];
+    bytes.extend(kind.to_le_bytes());
+    for (letter, value) in letters.iter().zip(values) {
+        bytes.extend(&value.to_le_bytes()[..letter.size()]);
+    }
+    let len = bytes.len() as u16;
+    bytes[..2].copy_from_slice(&len.to_le_bytes());
+    bytes
+}
+
+fn with_length_field(bytes: &[u8], len: u16) -> Vec<u8> {
+    let mut bytes = bytes.to_vec();
+    bytes[..2].copy_from_slice(&len.to_le_bytes());
+    bytes
+}
+
+/// One value in range for each letter, different from letter to letter.
+fn some_values(letters: &[Letter], random: &mut Random) -> Vec<u64> {
+    letters
+        .iter()
+        .map(|letter| {
+            let allowed: Vec<u64> =
+                letter.edges().into_iter().filter(|&value| letter.allows(value)).collect();
+            random.pick(&allowed)
+        })
+        .collect()
+}
+
+#[test]
+fn every_combination_of_edge_values_is_read_exactly_when_each_is_in_range() {
+    let mut queue = Queue::new();
+    let mut tried = 0u64;
+    for side in &SIDES {
+        for &(kind, letters) in side.kinds {
+            // A few edges per letter where all combinations would be too many.
+            let edges: Vec<Vec<u64>> = letters
+                .iter()
+                .map(|letter| match letter {
+                    Bit | G | C | P => (0..=5).chain([255]).collect(),
+                    O | O16 => vec![0, 1, 3, 14, 15, 16, 17, 255],
+                    X => (0..=10).chain([255]).collect(),
+                    _ => letter.edges(),
+                })
+                .collect();
+            let mut at = vec![0; letters.len()];
+            loop {
+                let values: Vec<u64> = edges.iter().zip(&at).map(|(edge, &at)| edge[at]).collect();
+                let all_in =
+                    letters.iter().zip(&values).all(|(letter, &value)| letter.allows(value));
+                side.expect(
+                    &mut queue,
+                    &record(kind, letters, &values),
+                    if all_in { 0 } else { 4 },
+                );
+                tried += 1;
+                let Some(place) = (0..at.len()).find(|&place| at[place] + 1 < edges[place].len())
+                else {
+                    break;
+                };
+                at[place] += 1;
+                at[..place].fill(0);
+            }
+        }
+    }
+    queue.finish();
+    tell(&format!("{tried} combinations of edge values"));
+}
+
+#[test]
+fn each_field_alone_over_all_its_edges() {
+    let mut queue = Queue::new();
+    let mut random = Random::new(0xF1E1D);
+    for side in &SIDES {
+        for &(kind, letters) in side.kinds {
+            for (place, letter) in letters.iter().enumerate() {
+                let others = some_values(letters, &mut random);
+                for value in letter.edges() {
+                    let mut values = others.clone();
+                    values[place] = value;
+                    let answer = if letter.allows(value) { 0 } else { 4 };
+                    side.expect(&mut queue, &record(kind, letters, &values), answer);
+                }
+            }
+        }
+    }
+    queue.finish();
+}
+
+#[test]
+fn random_records_in_range_come_back_as_they_were() {
+    let mut queue = Queue::new();
+    let mut random = Random::new(0x0DD5EED);
+    for _ in 0..200_000 {
+        let i = if random.one_in(8) { 0 } else { generate::identifier(&mut random) };
+        let event = Bytes::of_event(generate::event(&mut random, i));
+        SIDES[0].expect(&mut queue, event.as_slice(), 0);
+        let message = Bytes::of_message(generate::message(&mut random));
+        SIDES[1].expect(&mut queue, message.as_slice(), 0);
+        // Neither reader takes the other's records.
+        SIDES[0].expect(&mut queue, message.as_slice(), 3);
+        SIDES[1].expect(&mut queue, event.as_slice(), 3);
+    }
+    queue.finish();
+}
+
+#[test]
+fn damaged_records_get_the_accounts_answer() {
+    let mut queue = Queue::new();
+    let mut random = Random::new(0xBAD);
+    let mut answers = [0u64; 8];
+    for _ in 0..1_000_000 {
+        let i = generate::identifier(&mut random);
+        let event = generate::event(&mut random, i);
+        let bytes = generate::damaged_event(&mut random, event);
+        for side in &SIDES {
+            let answer = (side.account_check)(bytes.as_slice()) >> 16;
+            answers[answer as usize] += 1;
+            side.expect_of_reader(&mut queue, bytes.as_slice(), answer);
+        }
+    }
+    queue.finish();
+    tell(&format!("damaged records by answer {answers:?}"));
+    for answer in [0, 2, 3, 4] {
+        assert!(answers[answer] > 0, "answer {answer} was never seen");
+    }
+}
+
+#[test]
+fn every_wrong_length_is_2() {
+    let mut queue = Queue::new();
+    let mut random = Random::new(0x1E46);
+    for side in &SIDES {
+        for &(kind, letters) in side.kinds {
+            let whole = record(kind, letters, &some_values(letters, &mut random));
+            // Fewer bytes handed in than the field says, or under 4.
+            for len in 0..whole.len() {
+                side.expect(&mut queue, &whole[..len], 2);
+            }
+            // More bytes handed in than the field says.
+            for more in 1..=8 {
+                let mut long = whole.clone();
+                long.extend(vec![0; more]);
+                side.expect(&mut queue, &long, 2);
+            }
+            // A field that says something else of the same bytes.
+            for len in (0..=40).chain([255, 256, 0x0400, 0x0A00, 65535]) {
+                if len as usize != whole.len() {
+                    side.expect(&mut queue, &with_length_field(&whole, len), 2);
+                }
+            }
+        }
+        // A length under 4 is 2 even where it is what was handed in.
+        side.expect(&mut queue, &[], 2);
+        side.expect(&mut queue, &[1], 2);
+        side.expect(&mut queue, &[2, 0], 2);
+        side.expect(&mut queue, &[3, 0, 3], 2);
+        // The wrong length comes before the wrong kind and the wrong body.
+        side.expect(&mut queue, &[5, 0, 0xFF, 0xFF], 2);
+        side.expect(&mut queue, &[9, 0, 0x01, 0x02, 0xFF, 0xFF], 2);
+    }
+    queue.finish();
+}
+
+#[test]
+fn a_length_is_never_taken_modulo_65536() {
+    let mut queue = Queue::new();
+    for side in &SIDES {
+        for &(kind, letters) in side.kinds {
+            let whole = record(kind, letters, &some_values(letters, &mut Random::new(1)));
+            let mut long = whole.clone();
+            long.resize(65536 + whole.len(), 0);
+            side.expect(&mut queue, &long, 2);
+        }
+        for len in [65535usize, 65536, 65537, 65540, 131_072, 131_076] {
+            let mut bytes = vec![0u8; len];
+            bytes[..4].copy_from_slice(&[0xFF, 0xFF, 0xFF, 0xFF]);
+            side.expect(&mut queue, &bytes, if len == 65535 { 3 } else { 2 });
+            let kind = side.kinds[1].0;
+            bytes[2..4].copy_from_slice(&kind.to_le_bytes());
+            side.expect(&mut queue, &bytes, if len == 65535 { 4 } else { 2 });
+        }
+    }
+    queue.finish();
+}
+
+#[test]
+fn each_body_size_but_the_right_one_is_4() {
+    let mut queue = Queue::new();
+    let mut random = Random::new(0xB0D1);
+    for side in &SIDES {
+        for &(kind, letters) in side.kinds {
+            let whole = record(kind, letters, &some_values(letters, &mut random));
+            for len in 4..=40 {
+                let mut bytes = whole.clone();
+                bytes.resize(len, 1);
+                let answer = if len == whole.len() { 0 } else { 4 };
+                side.expect(&mut queue, &with_length_field(&bytes, len as u16), answer);
+            }
+        }
+    }
+    queue.finish();
+}
+
+#[test]
+fn all_65536_kinds_with_several_body_sizes() {
+    let mut queue = Queue::new();
+    let mut taken = 0;
+    for side in &SIDES {
+        for kind in 0..=0xFFFFu16 {
+            let known = side.kinds.iter().find(|(known, _)| *known == kind);
+            for body_len in 0..=9 {
+                // All ones is in range for every letter but n, so a known kind may also be 0.
+                let mut bytes = vec![1u8; 4 + body_len];
+                bytes[..2].copy_from_slice(&(4 + body_len as u16).to_le_bytes());
+                bytes[2..4].copy_from_slice(&kind.to_le_bytes());
+                let answer = match known {
+                    None => 3,
+                    Some((_, letters)) => {
+                        let size: usize = letters.iter().map(|letter| letter.size()).sum();
+                        let timer = letters.contains(&N) || letters.contains(&NO);
+                        // 01 01 01 01 is an address over its range.
+                        let address = letters.contains(&A) || letters.contains(&A0);
+                        if size == body_len && !timer && !address {
+                            0
+                        } else {
+                            4
+                        }
+                    }
+                };
+                taken += u32::from(answer == 0);
+                if known.is_some() {
+                    side.expect(&mut queue, &bytes, answer);
+                } else {
+                    side.expect_of_reader(&mut queue, &bytes, 3);
+                    queue.check(&Request::copy(side.copy, &bytes, 16, 0x7E), |_, _, _| 3 << 16);
+                }
+            }
+        }
+    }
+    queue.finish();
+    assert!(taken > 0);
+}
+
+#[test]
+fn fresh_is_written_only_to_21_bytes() {
+    let mut queue = Queue::new();
+    for len in 0..=64 {
+        queue.check(&Request::fresh(&vec![0x99; len], 0x99), |record, _, _| {
+            if len != 21 {
+                return 1 << 16;
+            }
+            record
+                .copy_from_slice(&[0, 0, 0, 0, 0, 0, 0, 0, 0, 0, 0, 4, 4, 0, 0, 0, 0, 0, 0, 0, 0]);
+            21
+        });
+    }
+    queue.finish();
+}
