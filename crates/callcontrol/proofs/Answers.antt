@@ -49,12 +49,12 @@ module _ (c : Call) (buffer : List ℕ) where
   step-answered : (ok : Bool) (r : Read Event) → Each (λ e. fine events e ≡ true) Known r →
       cond ok (whenRead r c buffer) (refusal 1 c buffer) .answer
       ≡ cond (not ok) 1
-        (cond (refusedWith 2 r) 2
-        (cond (refusedWith 3 r) 3
-        (cond (refusedWith 4 r) 4
-        (cond (ofEvent (λ e. otherCall c e) r) 5
-        (cond (ofEvent (λ e. not (rowFor c e .taken)) r) 6
-        (cond (ofEvent (λ e. not (leb (length (bytesOf (orders (rowFor c e)))) (length buffer))) r) 7 0))))))
+      (cond (refusedWith 2 r) 2
+      (cond (refusedWith 3 r) 3
+      (cond (refusedWith 4 r) 4
+      (cond (ofEvent (λ e. otherCall c e) r) 5
+      (cond (ofEvent (λ e. not (rowFor c e .taken)) r) 6
+      (cond (ofEvent (λ e. not (leb (length (bytesOf (orders (rowFor c e)))) (length buffer))) r) 7 0))))))
   unfolding decided carried
   step-answered false r known = refl
   step-answered true (taken e) known = event-answered (otherCall c e) (rowFor c e .taken) (leb (length (bytesOf (orders (rowFor c e)))) (length buffer)) (rowFor c e)

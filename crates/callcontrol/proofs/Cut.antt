@@ -133,6 +133,7 @@ same-call c i pos h = asked (eqb i (c .id)) refl
     nonzero : (n : ℕ) → leb 1 n ≡ true → eqb n 0 ≡ false
     nonzero zero l = apart l refl
     nonzero (suc n) l = eqb·suc-zero n
+
     asked : (b : Bool) → eqb i (c .id) ≡ b → i ≡ c .id
     asked true e = is i (c .id) e
     asked false e = apart (rw (e, nonzero (c .id) pos)) h
@@ -273,6 +274,7 @@ kept-plane c₀ p d kept = asked (eqb p 1) refl
   where
     timer : (b : Bool) → (getD (set (d .call .timers) T311 b) T310 false ≡ runs c₀ T310) × (length (set (d .call .timers) T311 b) ≡ 7)
     timer b = kept-timer c₀ d T311 b refl kept
+
     asked : (b : Bool) → eqb p 1 ≡ b → Kept c₀ (plane p d)
     asked true e = rw e ((kept .0 .0, kept .0 .1, kept .0 .2, kept .0 .3, timer true .0), timer true .1, kept .2, kept .3)
     asked false e = rw e ((kept .0 .0, kept .0 .1, kept .0 .2, kept .0 .3, timer false .0), timer false .1, kept .2, kept .3)
@@ -315,9 +317,10 @@ unfolding inState active activeBroken callDisconnect noRow
 restored-turn c₀ c v i g r o pos n (broken s p z h) k =
     apart (taken-row c v (DCallRestore i g r o) k .1) (ap (λ d. d .taken) (at-path c (DCallRestore i g r o) Path.Broken s p))
 restored-turn c₀ c v i g r o pos n (restoring s p z h) k =
-    let row : ByRow c v (DCallRestore i g r o) = taken-row c v (DCallRestore i g r o) k in
-    ( restored-id c₀ c pos s p z h i g r o (row .2)
-    , subst (Back r o c₀) (sym (row .0 ∙ ap (λ d. d .call) (at-path c (DCallRestore i g r o) Path.Restoring s p))) (restored-row c₀ c i g r o n s h) )
+    let row : ByRow c v (DCallRestore i g r o) = taken-row c v (DCallRestore i g r o) k in (
+      restored-id c₀ c pos s p z h i g r o (row .2),
+      subst (Back r o c₀) (sym (row .0 ∙ ap (λ d. d .call) (at-path c (DCallRestore i g r o) Path.Restoring s p))) (restored-row c₀ c i g r o n s h),
+    )
 restored-turn c₀ c v i g r o pos n (leaving s z) k =
     apart (taken-row c v (DCallRestore i g r o) k .1) (ap (λ d. d .taken) (at-state c (DCallRestore i g r o) State.CallDisconnect s))
 

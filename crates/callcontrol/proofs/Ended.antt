@@ -463,10 +463,15 @@ stopped : (c : Call) → length (c .timers) ≡ 7 → allStopped c ≡ true → 
 unfolding allStopped
 stopped c n h =
     seven (c .timers) n
-    ∙ rw (is-not (runs c T301) (search (left, right) depth 9), is-not (runs c T302) (search (left, right) depth 9),
-        is-not (runs c T303) (search (left, right) depth 9), is-not (runs c T306) (search (left, right) depth 9),
-        is-not (runs c T308) (search (left, right) depth 9), is-not (runs c T310) (search (left, right) depth 9),
-        is-not (runs c T311) (search (left, right) depth 9))
+    ∙ rw (
+      is-not (runs c T301) (search (left, right) depth 9),
+      is-not (runs c T302) (search (left, right) depth 9),
+      is-not (runs c T303) (search (left, right) depth 9),
+      is-not (runs c T306) (search (left, right) depth 9),
+      is-not (runs c T308) (search (left, right) depth 9),
+      is-not (runs c T310) (search (left, right) depth 9),
+      is-not (runs c T311) (search (left, right) depth 9),
+    )
 
 sound-idle : (c : Call) → sound c ≡ true → isIdle c ≡ true → asFresh c ≡ true
 unfolding sound
@@ -475,18 +480,18 @@ sound-idle c s z = so (isIdle c) (asFresh c) (search (left, right)) z
 idle-fresh : (c : Call) → length (c .timers) ≡ 7 → asFresh c ≡ true → isIdle c ≡ true → c ≡ freshCall
 unfolding asFresh
 idle-fresh c n f z =
-    λ i. record
-    { state = is-idle (c .state) z i
-    ; id = is (c .id) 0 (search (left, right) depth 12) i
-    ; address = is (c .address) 0 (search (left, right) depth 12) i
-    ; mode = is (c .mode) 0 (search (left, right) depth 12) i
-    ; asked = is (c .asked) 0 (search (left, right) depth 12) i
-    ; sent = is (c .sent) 0 (search (left, right) depth 12) i
-    ; path = is-up (c .path) (search (left, right) depth 12) i
-    ; plane = is (c .plane) 4 (search (left, right) depth 12) i
-    ; kept = is (c .kept) 4 (search (left, right) depth 12) i
-    ; code = is (c .code) 0 (search (left, right) depth 12) i
-    ; timers = stopped c n (search (left, right) depth 12) i
+    λ i. record {
+      state = is-idle (c .state) z i;
+      id = is (c .id) 0 (search (left, right) depth 12) i;
+      address = is (c .address) 0 (search (left, right) depth 12) i;
+      mode = is (c .mode) 0 (search (left, right) depth 12) i;
+      asked = is (c .asked) 0 (search (left, right) depth 12) i;
+      sent = is (c .sent) 0 (search (left, right) depth 12) i;
+      path = is-up (c .path) (search (left, right) depth 12) i;
+      plane = is (c .plane) 4 (search (left, right) depth 12) i;
+      kept = is (c .kept) 4 (search (left, right) depth 12) i;
+      code = is (c .code) 0 (search (left, right) depth 12) i;
+      timers = stopped c n (search (left, right) depth 12) i;
     }
 
 module _ (run-sound : Sound) (run-sized : (ts : List Turn) → length (run freshCall ts .timers) ≡ 7) where

@@ -49,11 +49,11 @@ Row c h d = d .taken ≡ true → Lands c h d
 
 lands : {c : Call} {s : State} {p m k : ℕ} {d : Draft} {h : History} → Fits s p m k h → Drawn c s p m k d → Row c h d
 lands fits f taken =
-    record
-    { agrees = rw (f .is .state-is, f .is .plane-is, f .is .mode-is, f .is .kept-is) fits
-    ; tells = rw (f .is .plane-is) (f .is .tells)
-    ; pdu-plain = f .is .pdu-plain
-    ; user-plain = f .is .user-plain
+    record {
+      agrees = rw (f .is .state-is, f .is .plane-is, f .is .mode-is, f .is .kept-is) fits;
+      tells = rw (f .is .plane-is) (f .is .tells);
+      pdu-plain = f .is .pdu-plain;
+      user-plain = f .is .user-plain;
     }
 
 no-row : {c : Call} {h : History} → Row c h (noRow c)

@@ -45,7 +45,7 @@ module _ (t : Table) (lawful : Lawful t) where
   unfolding fine flatFits
   value-fine k vs fit agrees =
       let same : allFit (flat t (t .valueOf k vs) .letters) (flat t (t .valueOf k vs) .values) ≡ allFit (t .rowOf k .letters) vs
-              = ap (λ (kv : (k : t .Kind) × Values (t .rowOf k .letters)). allFit (t .rowOf (kv .0) .letters) (kv .1)) (lawful .together k vs) in
+      = ap (λ (kv : (k : t .Kind) × Values (t .rowOf k .letters)). allFit (t .rowOf (kv .0) .letters) (kv .1)) (lawful .together k vs) in
       rw (same, fit) agrees
 
   pub read-each : (Q : ℕ → Type 0) → Q 2 → Q 3 → Q 4 → (s : List ℕ) → Each (λ v. fine t v ≡ true) Q (read t s)

@@ -261,9 +261,24 @@ from-up : {c : Call} → At State.CallActive Path.Up c → (e : Event) → Carri
 unfolding plain Rows.activeUp Rows.disconnected Rows.released
 from-up {c} (up l p n) =
     let v : At State.CallActive Path.Up c = up l p n in
-    search
-    ( by-event (λ e. Goes (Rows.activeUp c e)), here, idle, either, any, n, ends
-    , demanded v, ceased v, informed v, granted v, silenced v, interrupted v, cuts v, waits v, timed v)
+    search (
+      by-event (λ e. Goes (Rows.activeUp c e)),
+      here,
+      idle,
+      either,
+      any,
+      n,
+      ends,
+      demanded v,
+      ceased v,
+      informed v,
+      granted v,
+      silenced v,
+      interrupted v,
+      cuts v,
+      waits v,
+      timed v,
+    )
     depth 8
 
 -- CALL-ACTIVE, broken

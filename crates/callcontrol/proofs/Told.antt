@@ -91,15 +91,16 @@ module _ (keeps : Keeps) where
   run-tells (t ∷ ts) c h good agrees =
       let l : Left c h (next c t) (takenBy c t) = turn-left c h t good agrees (turned c t) in
       let rest : (lastTold (next c t .plane) (writtenIn (next c t) ts) ≡ run (next c t) ts .plane) × (run (next c t) ts .plane ≡ reads (reads h (listed (takenBy c t))) (takenIn (next c t) ts) .plane)
-              = run-tells ts (next c t) (reads h (listed (takenBy c t))) (l .good) (l .agrees) in
-      ( lastTold-append (c .plane) (messagesOf c (takenBy c t)) (writtenIn (next c t) ts) ∙ ap (λ p. lastTold p (writtenIn (next c t) ts)) (l .tells) ∙ rest .0
-      , rest .1 ∙ ap (λ x. x .plane) (sym (reads-append h (listed (takenBy c t)) (takenIn (next c t) ts))))
+      = run-tells ts (next c t) (reads h (listed (takenBy c t))) (l .good) (l .agrees) in (
+        lastTold-append (c .plane) (messagesOf c (takenBy c t)) (writtenIn (next c t) ts) ∙ ap (λ p. lastTold p (writtenIn (next c t) ts)) (l .tells) ∙ rest .0,
+        rest .1 ∙ ap (λ x. x .plane) (sym (reads-append h (listed (takenBy c t)) (takenIn (next c t) ts))),
+      )
 
   pub told-by-history : Told
   unfolding told planeByHistory
   told-by-history ts =
       let r : (lastTold 4 (writtenIn freshCall ts) ≡ run freshCall ts .plane) × (run freshCall ts .plane ≡ reads atFirst (takenIn freshCall ts) .plane)
-           = run-tells ts freshCall atFirst fresh-good refl in
+      = run-tells ts freshCall atFirst fresh-good refl in
       (r .0 ∙ r .1, r .0)
 
 -- neither of the two planes that transmit is off

@@ -18,7 +18,7 @@ use Rattle.callcontrol.specs.Witness.{flags, numbers, same, agrees, goes
 pub witness : Witness
 unfolding goesSo agrees same numbers flags restores quiet number bytes within isTimer valueAt valuesAt kindIn bodyOf bodyBytes flatSize flatBytes read readAs readBody messageBytes sound inRange asFresh allStopped timersAgree placesAgree verbs restart grant grantOrOff releasing released disconnected timedOut expiry idle moCallSetup mtCallSetup demands ceases informed cut activeExpiry activeUp asks activeBroken activeRestoring wait confirmed callDisconnect active inState rowFor byNumber starting orders bytesOf otherCall carried decided stepOf outcome next run takenBy writtenBy writtenIn toldAfter lastTold told endsCall ends
 witness =
-    record
-    { lines = refl
-    ; cuts = ((refl, refl, refl), ((refl, refl, refl), ((refl, refl, refl), tt)))
+    record {
+      lines = refl;
+      cuts = ((refl, refl, refl), ((refl, refl, refl), ((refl, refl, refl), tt)));
     }

@@ -5,7 +5,7 @@ ghost use lib.ListN.{length, replicate};
 ghost use Rattle.records.specs.Bodies.{Stored};
 ghost use Rattle.callcontrol.specs.Step.{stepOf, answerNumber};
 ghost use Rattle.calltrace.specs.Line.{lineFor};
-ghost use Rattle.calltrace.specs.Block.{frameAt, FrameIn, PauseIn};
+ghost use Rattle.calltrace.specs.Block.{frameAt, FrameIn, PauseIn, Traced};
 use crate::line::Line;
 use crate::line::put_line;
 use callcontrol::call::Call;
@@ -112,7 +112,8 @@ pub fn drain(s: &[u8], from: usize, first: Call, lines: &mut [u8], filled: usize
     requires { ⌜ filled ≤ length (now lines) ⌝ }
     ensures { λ r. ⌜ r .at ≤ length (now (s .entry)) ⌝ }
     ensures { λ r. ⌜ r .laid ≤ length (now (lines .entry)) ⌝ }
-    ensures { λ r. ⌜ PauseIn (length (now (s .entry)) - r .at) (length (now (lines .entry)) - r .laid) (r .pause) ⌝ }
+    ensures { λ r. ⌜ PauseIn (now (s .entry)) (r .at) (length (now (lines .entry)) - r .laid) (r .pause) ⌝ }
+    ensures { λ r. ⌜ Traced (now (s .entry)) from first (now (lines .entry)) filled (r .at) (r .call) (r .laid) (now (lines .exit)) ⌝ }
 {
     let mut at = from;
     let mut call = first;

@@ -1,6 +1,6 @@
 // Reads event records from standard input and prints a line for what the step answers to each.
 ghost use mathlib.Core.Path.{_≡_};
-ghost use Prim.Native.Nat.{_+_, _<_, _≤_};
+ghost use Prim.Native.Nat.{_+_, _-_, _<_, _≤_};
 ghost use lib.ListN.{length};
 use crate::block::Pause;
 use crate::block::drain;
@@ -20,6 +20,13 @@ fn input_block() -> [u8; 131072]
     ensures { λ r. ⌜ 131072 ≡ length r ⌝ }
 {
     [0; 131072]
+}
+
+struct Refilled {
+    // How many bytes of a record that is not whole were left.
+    rest: usize,
+    // How many bytes are held then: as many, where the input has ended.
+    held: usize,
 }
 
 // Moves the bytes from `at` to `held` to the front, and answers how many they are.
@@ -49,6 +56,22 @@ fn read_behind(bytes: &mut [u8], held: usize) -> usize
         io::write_all(STDERR_FILENO, b"calltrace: standard input cannot be read\n");
     }
     io::count(got, room)
+}
+
+// Makes room for what comes: the rest of a cut record moves to the front, and one read goes behind it.
+fn refill(bytes: &mut [u8], at: usize, held: usize) -> Refilled
+    requires { ⌜ at ≤ held ⌝ }
+    requires { ⌜ held ≤ length (now bytes) ⌝ }
+    requires { ⌜ held - at < length (now bytes) ⌝ }
+    ensures { λ r. ⌜ r .rest ≤ r .held ⌝ }
+    ensures { λ r. ⌜ r .held ≤ length (now (bytes .entry)) ⌝ }
+{
+    let rest = keep_rest(bytes, at, held);
+    let came = read_behind(bytes, rest);
+    Refilled {
+        rest,
+        held: rest + came,
+    }
 }
 
 // Writes the lines, and answers whether to go on.
@@ -83,6 +106,17 @@ fn write_last(lines: &mut [u8], laid: usize, call: Call)
     write_lines(lines, end);
 }
 
+// The end of the input, at which a record that is not whole has a line too.
+fn write_end(lines: &mut [u8], laid: usize, call: Call, rest: usize)
+    requires { ⌜ laid + 26 ≤ length (now lines) ⌝ }
+{
+    if rest == 0 {
+        write_lines(lines, laid);
+        return;
+    }
+    write_last(lines, laid, call);
+}
+
 // A proved loop has to end, and nothing says that the input does. So the loop counts its turns down, from a number that no run uses up.
 fn trace(bytes: &mut [u8], lines: &mut [u8])
     requires { ⌜ 65535 ≤ length (now bytes) ⌝ }
@@ -113,18 +147,13 @@ fn trace(bytes: &mut [u8], lines: &mut [u8])
                 return;
             }
             Pause::Cut => {
-                held = keep_rest(bytes, at, held);
-                at = 0;
-                let came = read_behind(bytes, held);
-                if came == 0 {
-                    if held == 0 {
-                        write_lines(lines, laid);
-                    } else {
-                        write_last(lines, laid, call);
-                    }
+                let filled = refill(bytes, at, held);
+                if filled.held == filled.rest {
+                    write_end(lines, laid, call, filled.rest);
                     return;
                 }
-                held += came;
+                at = 0;
+                held = filled.held;
             }
         }
     }

@@ -96,7 +96,7 @@ module _ (t : Table) (lawful : Lawful t) where
   narrow : (k : t .Kind) → 4 + size (t .rowOf k .letters) < 65536
   narrow k =
       let w : (ltb (t .rowOf k .number) 65536 && ltb (4 + size (t .rowOf k .letters)) 65536) ≡ true =
-              found _ (t .rowOf k .number) (t .kinds) k (lawful .found k) (lawful .narrow) in
+      found _ (t .rowOf k .number) (t .kinds) k (lawful .found k) (lawful .narrow) in
       ltb-true _ _ (right (ltb (t .rowOf k .number) 65536) _ w)
 
   pub written-small : {w : Wrote} {after : List ℕ} (v : t .Value) (out : List ℕ) → (w, after) ≡ write t v out → wroteWord w < 2 ^ 32

@@ -34,4 +34,7 @@ callcontrol-copy-event-spec =
     (λ c κs. search needs)
     (λ c κs. written-small events event-lawful _ _ (c .before .before .write-event .ensures))
     (λ c. search needs)
-    (λ c. copies events _ _ (rw (c .before .before .before .before .before .before .read .given .1) at (c .before .before .before .before .before .before .before .before .read-event .ensures)) (c .before .before .before .write-event .ensures) (c .written-word .ensures)))
+    (λ c.
+    let w = c .before .before .before in
+    let r = w .before .before .before in
+    copies events _ _ (rw (r .read .given .1) at (r .before .before .read-event .ensures)) (w .write-event .ensures) (c .written-word .ensures)))

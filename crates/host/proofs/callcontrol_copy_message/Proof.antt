@@ -34,4 +34,7 @@ callcontrol-copy-message-spec =
     (λ c κs. search needs)
     (λ c κs. written-small messages message-lawful _ _ (c .before .before .write-message .ensures))
     (λ c. search needs)
-    (λ c. copies messages _ _ (rw (c .before .before .before .before .before .before .read .given .1) at (c .before .before .before .before .before .before .before .before .read-message .ensures)) (c .before .before .before .write-message .ensures) (c .written-word .ensures)))
+    (λ c.
+    let w = c .before .before .before in
+    let r = w .before .before .before in
+    copies messages _ _ (rw (r .read .given .1) at (r .before .before .read-message .ensures)) (w .write-message .ensures) (c .written-word .ensures)))

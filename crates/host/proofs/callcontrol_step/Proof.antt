@@ -19,10 +19,24 @@ callcontrol-step-spec =
     (λ c. search needs)
     (λ c. omega (arith, step-small _ _ _ (c .before .before .before .before .before .step .ensures)))
     (λ c. omega (arith, step-small _ _ _ (c .before .before .before .before .before .step .ensures)))
-    (λ c κs. record-length _ (c .before .before .before .before .before .before .before .before .before .before .before .before .is-record .ensures) (c .before .before .before .before .before .before .before .before .before .before .before .if1 .left))
+    (λ c κs.
+    let g = c .before .before .before .before .before .before .before .before .before .before .before in
+    record-length _ (g .before .is-record .ensures) (g .if1 .left))
     (λ c. search needs)
     (λ c. search needs)
-    (λ c. packs _ _ _ (c .before .before .before .before .before .before .before .before .before .before .before .before .before .before .before .is-record .ensures) (c .before .before .before .before .before .before .before .before .before .before .before .before .before .before .if1 .left) (c .before .before .before .before .before .before .before .before .before .before .before .before .held .ensures) (c .before .before .before .before .before .before .before .before .before .before .step .ensures) (c .before .before .before .before .before .before .answer-number .ensures .0) (c .before .before .before .before .if2 .taken) (c .before .before .pack .ensures))
+    (λ c.
+    let p = c .before .before in
+    let n = p .before .before .before .before in
+    let t = n .before .before .before .before in
+    let h = t .before .before in
+    let g = h .before .before in
+    packs _ _ _ (g .before .is-record .ensures) (g .if1 .left) (h .held .ensures) (t .step .ensures) (n .answer-number .ensures .0)
+    (p .before .before .if2 .taken) (p .pack .ensures))
     (λ c. search needs)
     (λ c. search needs)
-    (λ c. leaves _ _ _ (c .before .before .before .before .before .before .before .before .before .before .before .is-record .ensures) (c .before .before .before .before .before .before .before .before .before .before .if1 .left) (c .before .before .before .before .before .before .before .before .held .ensures) (c .before .before .before .before .before .before .step .ensures) (c .before .before .answer-number .ensures .0) (c .if2 .left)))
+    (λ c.
+    let n = c .before .before in
+    let t = n .before .before .before .before in
+    let h = t .before .before in
+    let g = h .before .before in
+    leaves _ _ _ (g .before .is-record .ensures) (g .if1 .left) (h .held .ensures) (t .step .ensures) (n .answer-number .ensures .0) (c .if2 .left)))

@@ -28,4 +28,7 @@ held-spec =
     (λ c. search needs)
     (λ c. search needs)
     (λ c. search needs)
-    (λ c. rw (c .before .before .before .before .before .before .long-at .ensures, c .before .before .before .before .before .before .before .word-at .ensures, c .before .before .before .before .before .before .before .before .before .before .before .before .before .before .before .path-is .ensures, c .before .before .before .before .before .before .before .before .before .before .before .before .before .before .before .before .before .state-is .ensures)))
+    (λ c.
+    let a = c .before .before .before .before .before .before in
+    let p = a .before .before .before .before .before .before .before .before .before in
+    rw (a .long-at .ensures, a .before .word-at .ensures, p .path-is .ensures, p .before .before .state-is .ensures)))

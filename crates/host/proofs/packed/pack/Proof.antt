@@ -14,4 +14,7 @@ pack-spec =
     (λ c κs. search needs)
     (λ c κs. search needs)
     (λ c. search needs)
-    (λ c. rw (c .before .before .put-running .ensures, c .before .before .before .before .before .before .put-settings .ensures, c .before .before .before .before .before .before .before .before .before .before .put-names .ensures)))
+    (λ c.
+    let r = c .before .before in
+    let t = r .before .before .before .before in
+    rw (r .put-running .ensures, t .put-settings .ensures, t .before .before .before .before .put-names .ensures)))
