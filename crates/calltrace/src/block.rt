@@ -6,6 +6,7 @@ ghost use Rattle.records.specs.Bodies.{Stored};
 ghost use Rattle.callcontrol.specs.Step.{stepOf, answerNumber};
 ghost use Rattle.calltrace.specs.Line.{lineFor};
 ghost use Rattle.calltrace.specs.Block.{frameAt, FrameIn, PauseIn, Traced};
+use crate::line::LINE_MOST;
 use crate::line::Line;
 use crate::line::put_line;
 use callcontrol::call::Call;
@@ -118,7 +119,7 @@ pub fn drain(s: &[u8], from: usize, first: Call, lines: &mut [u8], filled: usize
     let mut at = from;
     let mut call = first;
     let mut laid = filled;
-    while 26 <= lines.len() - laid {
+    while LINE_MOST <= lines.len() - laid {
         let frame = frame_at(s, at);
         match frame {
             Frame::Whole(end) => {

@@ -6,6 +6,9 @@ ghost use Rattle.records.specs.Bodies.{Stored};
 ghost use Rattle.calltrace.specs.Line.{code, decimal, nameOf, header, lineBytes};
 use callcontrol::call::State;
 
+// The most bytes that a line takes.
+pub const LINE_MOST: usize = 26;
+
 pub struct Line {
     pub answer: u8,
     pub state: State,
@@ -83,7 +86,6 @@ pub fn put_header(lines: &mut [u8]) -> usize
     put_text(lines, 0, b"answer state plane bytes\n")
 }
 
-// No line takes more than 26 bytes.
 pub fn put_line(lines: &mut [u8], at: usize, line: Line) -> usize
     requires { ⌜ at + 26 ≤ length (now lines) ⌝ }
     requires { ⌜ line .answer < 10 ⌝ }

@@ -15,7 +15,7 @@ use libc::STDOUT_FILENO;
 mod block;
 mod line;
 
-// Room for a record of any length and for as much again, so that a read is never a short one for want of room.
+// Room for the longest record and for a read of as many bytes, so that few reads are needed.
 fn input_block() -> [u8; 131072]
     ensures { λ r. ⌜ 131072 ≡ length r ⌝ }
 {
