@@ -7,6 +7,7 @@ use mathlib.Core.Option.{Option, none, some}
 use mathlib.Core.Path.{_≡_, refl, _∙_, ap}
 use native.Mathlib.Nat.{add-zero}
 use native.Mathlib.Omega.{arith}
+use borrow.Author.Tests.{eq-eqb, ne-eqb}
 use lib.ListN.{length, getD, set, length-append}
 use lib.Seq.{sets}
 use Rattle.records.specs.Bytes.{number, bytes}
@@ -14,7 +15,7 @@ use Rattle.records.specs.Letters.{Letter, width, fits}
 use Rattle.records.specs.declared.bodies.Shape.{Shape}
 use Rattle.records.specs.declared.bodies.Fields.{Fields}
 use Rattle.records.specs.declared.bodies.Body.{Body}
-use Rattle.records.specs.Bodies.{Values, Flat, Stored, size, andThen, valueAt, valuesAt, numbersAt, allFit, bodyBytes, flatBytes, flatSize, lettersOf, valuesOf, fieldsOf, bodyAs}
+use Rattle.records.specs.Bodies.{Values, Flat, Stored, size, andThen, valueAt, valuesAt, numbersAt, allFit, bodyOf, bodyBytes, flatBytes, flatSize, lettersOf, valuesOf, fieldsOf, bodyAs}
 
 pub number-one : (s : List ℕ) (at : ℕ) → number 1 s at ≡ getD s at 0
 unfolding number
@@ -61,6 +62,24 @@ values-numbers [] s at = refl
 values-numbers (l ∷ ls) s at =
     simp (values-numbers ls s (at + width l))
     (both (fits l (number (width l) s at)) (allFit ls (numbersAt ls s (at + width l))) _ _)
+
+-- what a shape's reader answers: none for another size; else the fields that hold the shape's numbers, where these fit
+pub other-size : (shape : Shape) (s : List ℕ) → (length s ≡ 4 + size (lettersOf shape) → ⊥) → Body.Bad ≡ bodyAs shape (bodyOf (lettersOf shape) s)
+unfolding bodyOf bodyAs
+other-size shape s h = rw (ne-eqb (length s) (4 + size (lettersOf shape)) h)
+
+pub fitting : (shape : Shape) (s : List ℕ) {f : Fields} {fit : Bool} → length s ≡ 4 + size (lettersOf shape)
+    → f ≡ fieldsOf shape (numbersAt (lettersOf shape) s 4) → fit ≡ allFit (lettersOf shape) (numbersAt (lettersOf shape) s 4) → fit ≡ true
+    → Body.Is f ≡ bodyAs shape (bodyOf (lettersOf shape) s)
+unfolding bodyOf bodyAs
+fitting shape s whole same tested e =
+    rw (eq-eqb (length s) (4 + size (lettersOf shape)) whole, values-numbers (lettersOf shape) s 4, ← tested, e, same)
+
+pub misfit : (shape : Shape) (s : List ℕ) {fit : Bool} → length s ≡ 4 + size (lettersOf shape)
+    → fit ≡ allFit (lettersOf shape) (numbersAt (lettersOf shape) s 4) → fit ≡ false → Body.Bad ≡ bodyAs shape (bodyOf (lettersOf shape) s)
+unfolding bodyOf bodyAs
+misfit shape s whole tested e =
+    rw (eq-eqb (length s) (4 + size (lettersOf shape)) whole, values-numbers (lettersOf shape) s 4, ← tested, e)
 
 -- the fields that hold a shape's values hold those values
 pub values-fields : (shape : Shape) (vs : Values (lettersOf shape)) → valuesOf shape (fieldsOf shape vs) ≡ vs

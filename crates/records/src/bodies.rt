@@ -6,7 +6,7 @@ ghost use Prim.Native.Nat.{ℕ, _+_, _<_, _≤_};
 ghost use lib.ListN.{length};
 ghost use Rattle.records.specs.Bytes.{number, bytes};
 ghost use Rattle.records.specs.Letters.{Letter};
-ghost use Rattle.records.specs.Bodies.{Wrote, Stored, size, lettersOf, valuesOf, kindIn, bodyOf, numbersAt, allFit, bodyBytes, partsOf, flatBytes, flatFits, flatSize, laid, laidNext, written, fieldsOf, asFrame, bodyAs, asWrote};
+ghost use Rattle.records.specs.Bodies.{Wrote, Stored, size, lettersOf, valuesOf, kindIn, bodyOf, allFit, bodyBytes, partsOf, flatBytes, flatFits, flatSize, laid, laidNext, written, asFrame, bodyAs, asWrote};
 use crate::letters::Byte;
 use crate::letters::Long;
 use crate::letters::Word;
@@ -109,71 +109,6 @@ fn size_of(shape: Shape) -> u8
     }
 }
 
-// The numbers of a body, in a record of the shape's size.
-fn fields_in(s: &[u8], shape: Shape) -> Fields
-    requires { ⌜ length (now s) ≡ 4 + size (lettersOf shape) ⌝ }
-    ensures { λ r. ⌜ r ≡ fieldsOf shape (numbersAt (lettersOf shape) (now (s .entry)) 4) ⌝ }
-{
-    match shape {
-        Shape::Nothing => Fields {
-            word: 0,
-            long: 0,
-            first: 0,
-            second: 0,
-            third: 0,
-        },
-        Shape::Byte(_) => Fields {
-            word: 0,
-            long: 0,
-            first: s[4],
-            second: 0,
-            third: 0,
-        },
-        Shape::Word(_) => Fields {
-            word: word_at(s, 4),
-            long: 0,
-            first: 0,
-            second: 0,
-            third: 0,
-        },
-        Shape::WordByte(_, _) => Fields {
-            word: word_at(s, 4),
-            long: 0,
-            first: s[6],
-            second: 0,
-            third: 0,
-        },
-        Shape::WordByteByte(_, _, _) => Fields {
-            word: word_at(s, 4),
-            long: 0,
-            first: s[6],
-            second: s[7],
-            third: 0,
-        },
-        Shape::WordByteByteByte(_, _, _, _) => Fields {
-            word: word_at(s, 4),
-            long: 0,
-            first: s[6],
-            second: s[7],
-            third: s[8],
-        },
-        Shape::WordLongByte(_, _, _) => Fields {
-            word: word_at(s, 4),
-            long: long_at(s, 6),
-            first: s[10],
-            second: 0,
-            third: 0,
-        },
-        Shape::LongByteByte(_, _, _) => Fields {
-            word: 0,
-            long: long_at(s, 4),
-            first: s[8],
-            second: s[9],
-            third: 0,
-        },
-    }
-}
-
 // Whether every value is in its letter's range.
 fn fields_fit(shape: Shape, f: Fields) -> bool
     ensures { λ r. ⌜ r ≡ allFit (lettersOf shape) (valuesOf shape f) ⌝ }
@@ -194,19 +129,155 @@ fn fields_fit(shape: Shape, f: Fields) -> bool
     }
 }
 
-// What the body of a record holds, where it has the shape's size and every value fits.
-pub fn body_in(s: &[u8], shape: Shape) -> Body
-    ensures { λ r. ⌜ r ≡ bodyAs shape (bodyOf (lettersOf shape) (now (s .entry))) ⌝ }
+// What the body of a record holds, where it has the shape's size and every value fits. A reader for each shape, so that the arm of a
+// kind is compiled with its own: neither the shape nor the fields go through memory.
+
+pub fn nothing_in(s: &[u8]) -> Body
+    ensures { λ r. ⌜ r ≡ bodyAs Shape.Nothing (bodyOf (lettersOf Shape.Nothing) (now (s .entry))) ⌝ }
 {
-    if s.len() != 4 + size_of(shape) as usize {
+    if s.len() != 4 {
         return Body::Bad;
     }
-    let fields = fields_in(s, shape);
-    if fields_fit(shape, fields) {
-        Body::Is(fields)
-    } else {
-        Body::Bad
+    Body::Is(Fields {
+        word: 0,
+        long: 0,
+        first: 0,
+        second: 0,
+        third: 0,
+    })
+}
+
+pub fn byte_in(s: &[u8], b: Byte) -> Body
+    ensures { λ r. ⌜ r ≡ bodyAs (Shape.Byte b) (bodyOf (lettersOf (Shape.Byte b)) (now (s .entry))) ⌝ }
+{
+    if s.len() != 5 {
+        return Body::Bad;
     }
+    if byte_fits(b, s[4]) {
+        return Body::Is(Fields {
+            word: 0,
+            long: 0,
+            first: s[4],
+            second: 0,
+            third: 0,
+        });
+    }
+    Body::Bad
+}
+
+pub fn word_in(s: &[u8], w: Word) -> Body
+    ensures { λ r. ⌜ r ≡ bodyAs (Shape.Word w) (bodyOf (lettersOf (Shape.Word w)) (now (s .entry))) ⌝ }
+{
+    if s.len() != 6 {
+        return Body::Bad;
+    }
+    let word = word_at(s, 4);
+    if word_fits(w, word) {
+        return Body::Is(Fields {
+            word,
+            long: 0,
+            first: 0,
+            second: 0,
+            third: 0,
+        });
+    }
+    Body::Bad
+}
+
+pub fn word_byte_in(s: &[u8], w: Word, b: Byte) -> Body
+    ensures { λ r. ⌜ r ≡ bodyAs (Shape.WordByte w b) (bodyOf (lettersOf (Shape.WordByte w b)) (now (s .entry))) ⌝ }
+{
+    if s.len() != 7 {
+        return Body::Bad;
+    }
+    let word = word_at(s, 4);
+    if word_fits(w, word) & byte_fits(b, s[6]) {
+        return Body::Is(Fields {
+            word,
+            long: 0,
+            first: s[6],
+            second: 0,
+            third: 0,
+        });
+    }
+    Body::Bad
+}
+
+pub fn word_byte_byte_in(s: &[u8], w: Word, b: Byte, c: Byte) -> Body
+    ensures { λ r. ⌜ r ≡ bodyAs (Shape.WordByteByte w b c) (bodyOf (lettersOf (Shape.WordByteByte w b c)) (now (s .entry))) ⌝ }
+{
+    if s.len() != 8 {
+        return Body::Bad;
+    }
+    let word = word_at(s, 4);
+    if word_fits(w, word) & (byte_fits(b, s[6]) & byte_fits(c, s[7])) {
+        return Body::Is(Fields {
+            word,
+            long: 0,
+            first: s[6],
+            second: s[7],
+            third: 0,
+        });
+    }
+    Body::Bad
+}
+
+pub fn word_byte_byte_byte_in(s: &[u8], w: Word, b: Byte, c: Byte, d: Byte) -> Body
+    ensures { λ r. ⌜ r ≡ bodyAs (Shape.WordByteByteByte w b c d) (bodyOf (lettersOf (Shape.WordByteByteByte w b c d)) (now (s .entry))) ⌝ }
+{
+    if s.len() != 9 {
+        return Body::Bad;
+    }
+    let word = word_at(s, 4);
+    if word_fits(w, word) & (byte_fits(b, s[6]) & (byte_fits(c, s[7]) & byte_fits(d, s[8]))) {
+        return Body::Is(Fields {
+            word,
+            long: 0,
+            first: s[6],
+            second: s[7],
+            third: s[8],
+        });
+    }
+    Body::Bad
+}
+
+pub fn word_long_byte_in(s: &[u8], w: Word, a: Long, b: Byte) -> Body
+    ensures { λ r. ⌜ r ≡ bodyAs (Shape.WordLongByte w a b) (bodyOf (lettersOf (Shape.WordLongByte w a b)) (now (s .entry))) ⌝ }
+{
+    if s.len() != 11 {
+        return Body::Bad;
+    }
+    let word = word_at(s, 4);
+    let long = long_at(s, 6);
+    if word_fits(w, word) & (long_fits(a, long) & byte_fits(b, s[10])) {
+        return Body::Is(Fields {
+            word,
+            long,
+            first: s[10],
+            second: 0,
+            third: 0,
+        });
+    }
+    Body::Bad
+}
+
+pub fn long_byte_byte_in(s: &[u8], a: Long, b: Byte, c: Byte) -> Body
+    ensures { λ r. ⌜ r ≡ bodyAs (Shape.LongByteByte a b c) (bodyOf (lettersOf (Shape.LongByteByte a b c)) (now (s .entry))) ⌝ }
+{
+    if s.len() != 10 {
+        return Body::Bad;
+    }
+    let long = long_at(s, 4);
+    if long_fits(a, long) & (byte_fits(b, s[8]) & byte_fits(c, s[9])) {
+        return Body::Is(Fields {
+            word: 0,
+            long,
+            first: s[8],
+            second: s[9],
+            third: 0,
+        });
+    }
+    Body::Bad
 }
 
 // Whether every value of a record is in its letter's range.

@@ -11,9 +11,16 @@ use crate::bodies::Frame;
 use crate::bodies::Parts;
 use crate::bodies::Shape;
 use crate::bodies::Written;
-use crate::bodies::body_in;
+use crate::bodies::byte_in;
 use crate::bodies::kind_in;
+use crate::bodies::long_byte_byte_in;
+use crate::bodies::nothing_in;
 use crate::bodies::parts_fit;
+use crate::bodies::word_byte_byte_byte_in;
+use crate::bodies::word_byte_byte_in;
+use crate::bodies::word_byte_in;
+use crate::bodies::word_in;
+use crate::bodies::word_long_byte_in;
 use crate::bodies::write_parts;
 use crate::letters::Byte;
 use crate::letters::Long;
@@ -138,7 +145,7 @@ fn read_kind(kind: u16, s: &[u8]) -> EventRead
 {
     match kind {
         0x0101 => {
-            let Body::Is(f) = body_in(s, Shape::LongByteByte(Long::A1, Byte::D, Byte::Q)) else { // SETUP request a d q
+            let Body::Is(f) = long_byte_byte_in(s, Long::A1, Byte::D, Byte::Q) else { // SETUP request a d q
                 return EventRead::BadBody;
             };
             EventRead::Is(Event::SetupRequest {
@@ -148,46 +155,43 @@ fn read_kind(kind: u16, s: &[u8]) -> EventRead
             })
         }
         0x0102 => {
-            let Body::Is(f) = body_in(s, Shape::Nothing) else { // SETUP response
+            let Body::Is(f) = nothing_in(s) else { // SETUP response
                 return EventRead::BadBody;
             };
             EventRead::Is(Event::SetupResponse)
         }
         0x0103 => {
-            let Body::Is(f) = body_in(s, Shape::Nothing) else { // RELEASE request
+            let Body::Is(f) = nothing_in(s) else { // RELEASE request
                 return EventRead::BadBody;
             };
             EventRead::Is(Event::ReleaseRequest)
         }
         0x0104 => {
-            let Body::Is(f) = body_in(s, Shape::Byte(Byte::K)) else { // TX request k
+            let Body::Is(f) = byte_in(s, Byte::K) else { // TX request k
                 return EventRead::BadBody;
             };
             EventRead::Is(Event::TxRequest { go: f.first })
         }
         0x0105 => {
-            let Body::Is(f) = body_in(s, Shape::Byte(Byte::D)) else { // MODIFY request d
+            let Body::Is(f) = byte_in(s, Byte::D) else { // MODIFY request d
                 return EventRead::BadBody;
             };
             EventRead::Is(Event::ModifyRequest { mode: f.first })
         }
         0x0201 => {
-            let Body::Is(f) = body_in(s, Shape::Word(Word::I)) else { // D-CALL PROCEEDING i
+            let Body::Is(f) = word_in(s, Word::I) else { // D-CALL PROCEEDING i
                 return EventRead::BadBody;
             };
             EventRead::Is(Event::DCallProceeding { id: f.word })
         }
         0x0202 => {
-            let Body::Is(f) = body_in(s, Shape::Word(Word::I)) else { // D-ALERT i
+            let Body::Is(f) = word_in(s, Word::I) else { // D-ALERT i
                 return EventRead::BadBody;
             };
             EventRead::Is(Event::DAlert { id: f.word })
         }
         0x0203 => {
-            let Body::Is(f) = body_in(
-                s,
-                Shape::WordByteByteByte(Word::I, Byte::G, Byte::D, Byte::O), // D-CONNECT i g d o
-            ) else {
+            let Body::Is(f) = word_byte_byte_byte_in(s, Word::I, Byte::G, Byte::D, Byte::O) else { // D-CONNECT i g d o
                 return EventRead::BadBody;
             };
             EventRead::Is(Event::DConnect {
@@ -198,7 +202,7 @@ fn read_kind(kind: u16, s: &[u8]) -> EventRead
             })
         }
         0x0204 => {
-            let Body::Is(f) = body_in(s, Shape::WordByteByte(Word::I, Byte::G, Byte::O)) else { // D-CONNECT ACKNOWLEDGE i g o
+            let Body::Is(f) = word_byte_byte_in(s, Word::I, Byte::G, Byte::O) else { // D-CONNECT ACKNOWLEDGE i g o
                 return EventRead::BadBody;
             };
             EventRead::Is(Event::DConnectAcknowledge {
@@ -208,7 +212,7 @@ fn read_kind(kind: u16, s: &[u8]) -> EventRead
             })
         }
         0x0205 => {
-            let Body::Is(f) = body_in(s, Shape::WordLongByte(Word::I, Long::A, Byte::D)) else { // D-SETUP i a d
+            let Body::Is(f) = word_long_byte_in(s, Word::I, Long::A, Byte::D) else { // D-SETUP i a d
                 return EventRead::BadBody;
             };
             EventRead::Is(Event::DSetup {
@@ -218,10 +222,7 @@ fn read_kind(kind: u16, s: &[u8]) -> EventRead
             })
         }
         0x0206 => {
-            let Body::Is(f) = body_in(
-                s,
-                Shape::WordByteByteByte(Word::I, Byte::R, Byte::O16, Byte::D), // D-INFO i r o d
-            ) else {
+            let Body::Is(f) = word_byte_byte_byte_in(s, Word::I, Byte::R, Byte::O16, Byte::D) else { // D-INFO i r o d
                 return EventRead::BadBody;
             };
             EventRead::Is(Event::DInfo {
@@ -232,7 +233,7 @@ fn read_kind(kind: u16, s: &[u8]) -> EventRead
             })
         }
         0x0207 => {
-            let Body::Is(f) = body_in(s, Shape::WordByte(Word::I, Byte::G)) else { // D-TX GRANTED i g
+            let Body::Is(f) = word_byte_in(s, Word::I, Byte::G) else { // D-TX GRANTED i g
                 return EventRead::BadBody;
             };
             EventRead::Is(Event::DTxGranted {
@@ -241,13 +242,13 @@ fn read_kind(kind: u16, s: &[u8]) -> EventRead
             })
         }
         0x0208 => {
-            let Body::Is(f) = body_in(s, Shape::Word(Word::I)) else { // D-TX CEASED i
+            let Body::Is(f) = word_in(s, Word::I) else { // D-TX CEASED i
                 return EventRead::BadBody;
             };
             EventRead::Is(Event::DTxCeased { id: f.word })
         }
         0x0209 => {
-            let Body::Is(f) = body_in(s, Shape::WordByte(Word::I, Byte::G)) else { // D-TX INTERRUPT i g
+            let Body::Is(f) = word_byte_in(s, Word::I, Byte::G) else { // D-TX INTERRUPT i g
                 return EventRead::BadBody;
             };
             EventRead::Is(Event::DTxInterrupt {
@@ -256,13 +257,13 @@ fn read_kind(kind: u16, s: &[u8]) -> EventRead
             })
         }
         0x020A => {
-            let Body::Is(f) = body_in(s, Shape::Word(Word::I)) else { // D-TX WAIT i
+            let Body::Is(f) = word_in(s, Word::I) else { // D-TX WAIT i
                 return EventRead::BadBody;
             };
             EventRead::Is(Event::DTxWait { id: f.word })
         }
         0x020B => {
-            let Body::Is(f) = body_in(s, Shape::WordByte(Word::I, Byte::K)) else { // D-TX CONTINUE i k
+            let Body::Is(f) = word_byte_in(s, Word::I, Byte::K) else { // D-TX CONTINUE i k
                 return EventRead::BadBody;
             };
             EventRead::Is(Event::DTxContinue {
@@ -271,10 +272,7 @@ fn read_kind(kind: u16, s: &[u8]) -> EventRead
             })
         }
         0x020C => {
-            let Body::Is(f) = body_in(
-                s,
-                Shape::WordByteByteByte(Word::I, Byte::G, Byte::R, Byte::O16), // D-CALL RESTORE i g r o
-            ) else {
+            let Body::Is(f) = word_byte_byte_byte_in(s, Word::I, Byte::G, Byte::R, Byte::O16) else { // D-CALL RESTORE i g r o
                 return EventRead::BadBody;
             };
             EventRead::Is(Event::DCallRestore {
@@ -285,43 +283,43 @@ fn read_kind(kind: u16, s: &[u8]) -> EventRead
             })
         }
         0x020D => {
-            let Body::Is(f) = body_in(s, Shape::Word(Word::I0)) else { // D-DISCONNECT i
+            let Body::Is(f) = word_in(s, Word::I0) else { // D-DISCONNECT i
                 return EventRead::BadBody;
             };
             EventRead::Is(Event::DDisconnect { id: f.word })
         }
         0x020E => {
-            let Body::Is(f) = body_in(s, Shape::Word(Word::I0)) else { // D-RELEASE i
+            let Body::Is(f) = word_in(s, Word::I0) else { // D-RELEASE i
                 return EventRead::BadBody;
             };
             EventRead::Is(Event::DRelease { id: f.word })
         }
         0x0301 => {
-            let Body::Is(f) = body_in(s, Shape::Nothing) else { // REPORT sent
+            let Body::Is(f) = nothing_in(s) else { // REPORT sent
                 return EventRead::BadBody;
             };
             EventRead::Is(Event::ReportSent)
         }
         0x0302 => {
-            let Body::Is(f) = body_in(s, Shape::Nothing) else { // REPORT failed
+            let Body::Is(f) = nothing_in(s) else { // REPORT failed
                 return EventRead::BadBody;
             };
             EventRead::Is(Event::ReportFailed)
         }
         0x0303 => {
-            let Body::Is(f) = body_in(s, Shape::Nothing) else { // BREAK
+            let Body::Is(f) = nothing_in(s) else { // BREAK
                 return EventRead::BadBody;
             };
             EventRead::Is(Event::Break)
         }
         0x0304 => {
-            let Body::Is(f) = body_in(s, Shape::Nothing) else { // RESUME
+            let Body::Is(f) = nothing_in(s) else { // RESUME
                 return EventRead::BadBody;
             };
             EventRead::Is(Event::Resume)
         }
         0x0401 => {
-            let Body::Is(f) = body_in(s, Shape::Word(Word::N)) else { // expiry n
+            let Body::Is(f) = word_in(s, Word::N) else { // expiry n
                 return EventRead::BadBody;
             };
             EventRead::Is(Event::Expiry { timer: f.word })

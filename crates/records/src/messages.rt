@@ -11,11 +11,16 @@ use crate::bodies::Frame;
 use crate::bodies::Parts;
 use crate::bodies::Shape;
 use crate::bodies::Written;
-use crate::bodies::body_in;
+use crate::bodies::byte_in;
 use crate::bodies::kind_in;
 use crate::bodies::lay_parts;
+use crate::bodies::long_byte_byte_in;
+use crate::bodies::nothing_in;
 use crate::bodies::parts_fit;
 use crate::bodies::parts_size;
+use crate::bodies::word_byte_in;
+use crate::bodies::word_in;
+use crate::bodies::word_long_byte_in;
 use crate::bodies::write_parts;
 use crate::letters::Byte;
 use crate::letters::Long;
@@ -99,7 +104,7 @@ fn read_kind(kind: u16, s: &[u8]) -> MessageRead
 {
     match kind {
         0x0501 => {
-            let Body::Is(f) = body_in(s, Shape::LongByteByte(Long::A1, Byte::D, Byte::Q)) else { // U-SETUP a d q
+            let Body::Is(f) = long_byte_byte_in(s, Long::A1, Byte::D, Byte::Q) else { // U-SETUP a d q
                 return MessageRead::BadBody;
             };
             MessageRead::Is(Message::USetup {
@@ -109,13 +114,13 @@ fn read_kind(kind: u16, s: &[u8]) -> MessageRead
             })
         }
         0x0502 => {
-            let Body::Is(f) = body_in(s, Shape::Word(Word::I)) else { // U-CONNECT i
+            let Body::Is(f) = word_in(s, Word::I) else { // U-CONNECT i
                 return MessageRead::BadBody;
             };
             MessageRead::Is(Message::UConnect { id: f.word })
         }
         0x0503 => {
-            let Body::Is(f) = body_in(s, Shape::WordByte(Word::I0, Byte::C)) else { // U-DISCONNECT i c
+            let Body::Is(f) = word_byte_in(s, Word::I0, Byte::C) else { // U-DISCONNECT i c
                 return MessageRead::BadBody;
             };
             MessageRead::Is(Message::UDisconnect {
@@ -124,13 +129,13 @@ fn read_kind(kind: u16, s: &[u8]) -> MessageRead
             })
         }
         0x0504 => {
-            let Body::Is(f) = body_in(s, Shape::Word(Word::I0)) else { // U-RELEASE i
+            let Body::Is(f) = word_in(s, Word::I0) else { // U-RELEASE i
                 return MessageRead::BadBody;
             };
             MessageRead::Is(Message::URelease { id: f.word })
         }
         0x0505 => {
-            let Body::Is(f) = body_in(s, Shape::WordByte(Word::I, Byte::D)) else { // U-INFO i d
+            let Body::Is(f) = word_byte_in(s, Word::I, Byte::D) else { // U-INFO i d
                 return MessageRead::BadBody;
             };
             MessageRead::Is(Message::UInfo {
@@ -139,19 +144,19 @@ fn read_kind(kind: u16, s: &[u8]) -> MessageRead
             })
         }
         0x0506 => {
-            let Body::Is(f) = body_in(s, Shape::Word(Word::I)) else { // U-TX DEMAND i
+            let Body::Is(f) = word_in(s, Word::I) else { // U-TX DEMAND i
                 return MessageRead::BadBody;
             };
             MessageRead::Is(Message::UTxDemand { id: f.word })
         }
         0x0507 => {
-            let Body::Is(f) = body_in(s, Shape::Word(Word::I)) else { // U-TX CEASED i
+            let Body::Is(f) = word_in(s, Word::I) else { // U-TX CEASED i
                 return MessageRead::BadBody;
             };
             MessageRead::Is(Message::UTxCeased { id: f.word })
         }
         0x0508 => {
-            let Body::Is(f) = body_in(s, Shape::WordLongByte(Word::I, Long::A, Byte::Q)) else { // U-CALL RESTORE i a q
+            let Body::Is(f) = word_long_byte_in(s, Word::I, Long::A, Byte::Q) else { // U-CALL RESTORE i a q
                 return MessageRead::BadBody;
             };
             MessageRead::Is(Message::UCallRestore {
@@ -161,13 +166,13 @@ fn read_kind(kind: u16, s: &[u8]) -> MessageRead
             })
         }
         0x0601 => {
-            let Body::Is(f) = body_in(s, Shape::Word(Word::N)) else { // STOP n
+            let Body::Is(f) = word_in(s, Word::N) else { // STOP n
                 return MessageRead::BadBody;
             };
             MessageRead::Is(Message::Stop { timer: f.word })
         }
         0x0602 => {
-            let Body::Is(f) = body_in(s, Shape::WordByte(Word::N, Byte::O)) else { // START n o
+            let Body::Is(f) = word_byte_in(s, Word::N, Byte::O) else { // START n o
                 return MessageRead::BadBody;
             };
             if !start_agrees(f.word, f.first) {
@@ -179,19 +184,19 @@ fn read_kind(kind: u16, s: &[u8]) -> MessageRead
             })
         }
         0x0603 => {
-            let Body::Is(f) = body_in(s, Shape::Byte(Byte::P)) else { // CONFIGURE p
+            let Body::Is(f) = byte_in(s, Byte::P) else { // CONFIGURE p
                 return MessageRead::BadBody;
             };
             MessageRead::Is(Message::Configure { plane: f.first })
         }
         0x0604 => {
-            let Body::Is(f) = body_in(s, Shape::Nothing) else { // CANCEL
+            let Body::Is(f) = nothing_in(s) else { // CANCEL
                 return MessageRead::BadBody;
             };
             MessageRead::Is(Message::Cancel)
         }
         0x0701 => {
-            let Body::Is(f) = body_in(s, Shape::WordLongByte(Word::I, Long::A, Byte::D)) else { // SETUP indication i a d
+            let Body::Is(f) = word_long_byte_in(s, Word::I, Long::A, Byte::D) else { // SETUP indication i a d
                 return MessageRead::BadBody;
             };
             MessageRead::Is(Message::SetupIndication {
@@ -201,7 +206,7 @@ fn read_kind(kind: u16, s: &[u8]) -> MessageRead
             })
         }
         0x0702 => {
-            let Body::Is(f) = body_in(s, Shape::WordByte(Word::I, Byte::G)) else { // SETUP confirm i g
+            let Body::Is(f) = word_byte_in(s, Word::I, Byte::G) else { // SETUP confirm i g
                 return MessageRead::BadBody;
             };
             MessageRead::Is(Message::SetupConfirm {
@@ -210,43 +215,43 @@ fn read_kind(kind: u16, s: &[u8]) -> MessageRead
             })
         }
         0x0703 => {
-            let Body::Is(f) = body_in(s, Shape::Nothing) else { // PROCEED
+            let Body::Is(f) = nothing_in(s) else { // PROCEED
                 return MessageRead::BadBody;
             };
             MessageRead::Is(Message::Proceed)
         }
         0x0704 => {
-            let Body::Is(f) = body_in(s, Shape::Nothing) else { // ALERT
+            let Body::Is(f) = nothing_in(s) else { // ALERT
                 return MessageRead::BadBody;
             };
             MessageRead::Is(Message::Alert)
         }
         0x0705 => {
-            let Body::Is(f) = body_in(s, Shape::Byte(Byte::G)) else { // COMPLETE g
+            let Body::Is(f) = byte_in(s, Byte::G) else { // COMPLETE g
                 return MessageRead::BadBody;
             };
             MessageRead::Is(Message::Complete { grant: f.first })
         }
         0x0706 => {
-            let Body::Is(f) = body_in(s, Shape::Byte(Byte::C)) else { // RELEASE indication c
+            let Body::Is(f) = byte_in(s, Byte::C) else { // RELEASE indication c
                 return MessageRead::BadBody;
             };
             MessageRead::Is(Message::ReleaseIndication { cause: f.first })
         }
         0x0707 => {
-            let Body::Is(f) = body_in(s, Shape::Nothing) else { // RELEASE confirm
+            let Body::Is(f) = nothing_in(s) else { // RELEASE confirm
                 return MessageRead::BadBody;
             };
             MessageRead::Is(Message::ReleaseConfirm)
         }
         0x0708 => {
-            let Body::Is(f) = body_in(s, Shape::Byte(Byte::X)) else { // TX indication x
+            let Body::Is(f) = byte_in(s, Byte::X) else { // TX indication x
                 return MessageRead::BadBody;
             };
             MessageRead::Is(Message::TxIndication { told: f.first })
         }
         0x0709 => {
-            let Body::Is(f) = body_in(s, Shape::Byte(Byte::D)) else { // MODIFY indication d
+            let Body::Is(f) = byte_in(s, Byte::D) else { // MODIFY indication d
                 return MessageRead::BadBody;
             };
             MessageRead::Is(Message::ModifyIndication { mode: f.first })
