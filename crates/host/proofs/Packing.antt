@@ -65,7 +65,8 @@ path-there Path.Restoring = refl
 path-back : (n : ℕ) → n ≤ 2 → pathNumber (pathIs n) ≡ n
 path-back zero h = refl
 path-back (suc zero) h = refl
-path-back (suc (suc n)) h = omega arith
+path-back (suc (suc zero)) h = refl
+path-back (suc (suc (suc n))) h = absurd (omega arith)
 
 flag-small : (b : Bool) → leb (flag b) 1 ≡ true
 flag-small true = refl

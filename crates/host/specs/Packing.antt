@@ -38,10 +38,12 @@ stateIs (suc (suc (suc zero))) = State.CallActive
 stateIs (suc (suc (suc (suc zero)))) = State.Wait
 stateIs (suc (suc (suc (suc (suc n))))) = State.CallDisconnect
 
+-- only 2 is Restoring; above it, which no record has since isRecord refuses it, is Up
 abbrev pub pathIs : ℕ → Path
 pathIs zero = Path.Up
 pathIs (suc zero) = Path.Broken
-pathIs (suc (suc n)) = Path.Restoring
+pathIs (suc (suc zero)) = Path.Restoring
+pathIs (suc (suc (suc n))) = Path.Up
 
 -- the bytes are a record: 21 of them, a state up to 5, a path up to 2, flags up to 1
 unfoldable pub isRecord : List ℕ → Bool

@@ -24,13 +24,15 @@ fn state_is(n: u8) -> State
     }
 }
 
+// 2 is the last that a record has; what is above it is Up.
 fn path_is(n: u8) -> Path
     ensures { λ r. ⌜ r ≡ pathIs n ⌝ }
 {
     match n {
         0 => Path::Up,
         1 => Path::Broken,
-        _ => Path::Restoring,
+        2 => Path::Restoring,
+        _ => Path::Up,
     }
 }
 
@@ -59,15 +61,31 @@ pub fn is_record(s: &[u8]) -> bool
     if s.len() != 21 {
         return false;
     }
-    (s[0] <= 5)
-        & (s[10] <= 2)
-        & (s[14] <= 1)
-        & (s[15] <= 1)
-        & (s[16] <= 1)
-        & (s[17] <= 1)
-        & (s[18] <= 1)
-        & (s[19] <= 1)
-        & (s[20] <= 1)
+    if s[0] > 5 {
+        return false;
+    }
+    if s[10] > 2 {
+        return false;
+    }
+    if s[14] > 1 {
+        return false;
+    }
+    if s[15] > 1 {
+        return false;
+    }
+    if s[16] > 1 {
+        return false;
+    }
+    if s[17] > 1 {
+        return false;
+    }
+    if s[18] > 1 {
+        return false;
+    }
+    if s[19] > 1 {
+        return false;
+    }
+    s[20] <= 1
 }
 
 // The call that a record's bytes hold.

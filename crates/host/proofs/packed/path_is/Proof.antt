@@ -1,4 +1,4 @@
--- In each arm the number is known; in the last it is 2 or more.
+-- In each arm the number is known; in the last it is 3 or more.
 use Prim.Native.Nat.{ℕ, zero, suc, _≤_}
 use mathlib.Core.Path.{_≡_, refl}
 use native.Mathlib.Omega.{arith}
@@ -8,10 +8,11 @@ use Rattle.host.specs.Packing.{pathIs}
 use Rattle.host.proofs.packed.path_is.Statement.{statement}
 use Rattle.host.proofs.packed.path_is.Tie as tie
 
-last : (n : ℕ) → 2 ≤ n → Path.Restoring ≡ pathIs n
+last : (n : ℕ) → 3 ≤ n → Path.Up ≡ pathIs n
 last zero h = absurd (omega arith)
 last (suc zero) h = absurd (omega arith)
-last (suc (suc n)) h = refl
+last (suc (suc zero)) h = absurd (omega arith)
+last (suc (suc (suc n))) h = refl
 
 pub path-is-spec : {M : Type 1} → statement M
 path-is-spec =
@@ -19,4 +20,5 @@ path-is-spec =
     (tie.spec
     (λ c. search needs)
     (λ c. search needs)
-    (λ c. let r = c .match .rest in let h : 2 ≤ c .before .args .n = omega (arith, r .1, r .0 .1) in last _ h))
+    (λ c. search needs)
+    (λ c. let r = c .match .rest in let h : 3 ≤ c .before .args .n = omega (arith, r .1, r .0 .1, r .0 .0 .1) in last _ h))
