@@ -1,15 +1,18 @@
 -- What a step gives back once its messages are counted, and laid where they fit.
 use Prim.Native.Nat.{ℕ, _+_, _≤_, _<_}
-use mathlib.Core.Path.{_≡_, sym, _∙_, ap}
+use mathlib.Core.Path.{_≡_, refl, sym, _∙_, ap}
 use mathlib.Core.Bool.{Bool, true, false, cond}
 use mathlib.Core.List.{List}
 use native.Mathlib.Omega.{arith}
-use borrow.Author.Tests.{le-leb, lt-leb}
+use borrow.Author.Tests.{eq-eqb, ne-eqb, le-leb, lt-leb}
 use lib.ListN.{length}
 use Rattle.records.specs.declared.events.Event.{Event}
 use Rattle.callcontrol.specs.declared.call.Call.{Call}
 use Rattle.callcontrol.specs.declared.draft.Draft.{Draft}
+use Rattle.callcontrol.specs.declared.row.Row.{Row}
+use Rattle.callcontrol.specs.Draft.{noRow}
 use Rattle.callcontrol.specs.Rows.{rowFor}
+use Rattle.callcontrol.specs.Settle.{settled, drawn}
 use Rattle.callcontrol.specs.Orders.{orders, bytesOf, Laid}
 use Rattle.callcontrol.specs.Step.{Outcome, refusal, otherCall, carried, decided}
 use Rattle.callcontrol.proofs.Laying.{lay-fits}
@@ -25,10 +28,34 @@ fitting c d b after n end size room laid =
     let whole = laid .is ∙ lay-fits (orders d) 0 b (omega arith) in
     rw (size, le-leb _ _ (rw size at room), ap (λ (w : ℕ × List ℕ). w .1) whole)
 
-pub by-row : (c : Call) (e : Event) (b : List ℕ) (d : Draft) (x : Outcome) → otherCall c e ≡ false → d ≡ rowFor c e → d .taken ≡ true
+by-row : (c : Call) (e : Event) (b : List ℕ) (d : Draft) (x : Outcome) → otherCall c e ≡ false → d ≡ rowFor c e → d .taken ≡ true
     → x ≡ carried c d b → x ≡ decided c e b
 unfolding decided
 by-row c e b d x agrees row taken h =
     let t : rowFor c e .taken ≡ true = ap (λ (w : Draft). w .taken) (sym row) ∙ taken in
     rw agrees
     (h ∙ ap (λ (w : Draft). carried c w b) row ∙ ap (λ (s : Bool). cond s (carried c (rowFor c e) b) (refusal 6 c b)) (sym t))
+
+-- a row, and the draft that it stands for
+
+settled-row : (c : Call) (r : Row) (d : Draft) → drawn c r ≡ d → (r .orders ≡ 0 → ⊥) → settled c r ≡ d
+unfolding drawn
+settled-row c r d h some = rw (ne-eqb _ _ some) at h
+
+settled-taken : (c : Call) (r : Row) → settled c r .taken ≡ true
+unfolding settled
+settled-taken c r = refl
+
+pub by-orders : (c : Call) (e : Event) (b : List ℕ) (r : Row) (d : Draft) (x : Outcome) → otherCall c e ≡ false → drawn c r ≡ rowFor c e
+    → (r .orders ≡ 0 → ⊥) → d ≡ settled c r → x ≡ carried c d b → x ≡ decided c e b
+by-orders c e b r d x agrees row some settle h =
+    by-row c e b d x agrees (settle ∙ settled-row c r (rowFor c e) row some) (ap (λ (w : Draft). w .taken) settle ∙ settled-taken c r) h
+
+no-row : (c : Call) (r : Row) (d : Draft) → drawn c r ≡ d → r .orders ≡ 0 → d .taken ≡ false
+unfolding drawn noRow
+no-row c r d h none = ap (λ (w : Draft). w .taken) (sym (rw (eq-eqb _ _ none) at h))
+
+pub by-none : (c : Call) (e : Event) (b : List ℕ) (r : Row) → otherCall c e ≡ false → drawn c r ≡ rowFor c e → r .orders ≡ 0
+    → refusal 6 c b ≡ decided c e b
+unfolding decided
+by-none c e b r agrees row none = rw (agrees, no-row c r (rowFor c e) row none)

@@ -118,3 +118,26 @@ size-orders d =
     simp size-append
     (omega
     (arith, cancel, plane, size-byNumber Message.Stop (d .stops) 6 (λ k. refl), size-byNumber (starting (d .call .code)) (d .starts) 7 (λ k. refl)))
+
+-- where no timer is flagged, there is no order
+quiet : (m n o p q r s : Message) (a b c d e f g : Bool)
+    → cond a 1 0 + cond b 1 0 + cond c 1 0 + cond d 1 0 + cond e 1 0 + cond f 1 0 + cond g 1 0 ≡ 0
+    → when a m ++ (when b n ++ (when c o ++ (when d p ++ (when e q ++ (when f r ++ when g s))))) ≡ []
+quiet m n o p q r s true b c d e f g h = absurd (omega arith)
+quiet m n o p q r s false true c d e f g h = absurd (omega arith)
+quiet m n o p q r s false false true d e f g h = absurd (omega arith)
+quiet m n o p q r s false false false true e f g h = absurd (omega arith)
+quiet m n o p q r s false false false false true f g h = absurd (omega arith)
+quiet m n o p q r s false false false false false true g h = absurd (omega arith)
+quiet m n o p q r s false false false false false false true h = absurd (omega arith)
+quiet m n o p q r s false false false false false false false h = refl
+
+pub no-orders : (order : ℕ → Message) (flags : List Bool) → countOf flags ≡ 0 → byNumber order flags ≡ []
+unfolding countOf byNumber
+no-orders order flags h =
+    quiet (order 301) (order 302) (order 303) (order 306) (order 308) (order 310) (order 311) (getD flags T301 false) (getD flags T302 false)
+    (getD flags T303 false) (getD flags T306 false) (getD flags T308 false) (getD flags T310 false) (getD flags T311 false) h
+
+pub lay-none : {b : List ℕ} {at : ℕ} {ms : List Message} → ms ≡ [] → Laid b at ms at b
+unfolding layAll
+lay-none {b} {at} e = record { is = rw e }

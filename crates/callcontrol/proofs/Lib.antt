@@ -11,6 +11,7 @@ pub mod Laying
 pub mod Places
 pub mod Ranges
 pub mod Reading
+pub mod Settled
 pub mod Situations
 pub mod Sound
 pub mod Tags

@@ -1,6 +1,7 @@
 pub mod Call
 pub mod Draft
 pub mod Rows
+pub mod Settle
 pub mod Orders
 pub mod Step
 pub mod Examples

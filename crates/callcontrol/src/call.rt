@@ -1,6 +1,6 @@
 // The call record, and what makes it sound.
 ghost use mathlib.Core.Path.{_≡_};
-ghost use Rattle.callcontrol.specs.Call.{freshCall, isIdle, stateNumber, pathNumber, mayLackId, allStopped, inRange, asFresh, timersAgree, placesAgree, sound};
+ghost use Rattle.callcontrol.specs.Call.{_⇒_, freshCall, isIdle, stateNumber, pathNumber, mayLackId, allStopped, inRange, asFresh, timersAgree, placesAgree, sound};
 
 // Where the call is. The numbers are those of a host's record.
 pub enum State {
@@ -186,13 +186,29 @@ impl Call {
             & ((1 <= self.id) | may_lack_id(state))
     }
 
+    // In IDLE, the fresh record and no other.
+    fn idle_is_fresh(self) -> bool
+        ensures { λ r. ⌜ r ≡ (isIdle self ⇒ asFresh self) ⌝ }
+    {
+        if self.is_idle() {
+            return self.as_fresh();
+        }
+        true
+    }
+
     // What the paper calls sound.
     pub fn sound(self) -> bool
         ensures { λ r. ⌜ r ≡ sound self ⌝ }
     {
-        self.in_range()
-            & (!self.is_idle() | self.as_fresh())
-            & self.timers_agree()
-            & self.places_agree()
+        if !self.in_range() {
+            return false;
+        }
+        if !self.idle_is_fresh() {
+            return false;
+        }
+        if !self.timers_agree() {
+            return false;
+        }
+        self.places_agree()
     }
 }

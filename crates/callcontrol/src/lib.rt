@@ -2,5 +2,7 @@
 pub mod call;
 mod draft;
 mod orders;
+mod row;
 mod rows;
+mod settle;
 pub mod step;

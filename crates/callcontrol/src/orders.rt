@@ -50,9 +50,13 @@ fn lay_held(slot: Slot, buffer: &mut [u8], at: usize) -> usize
     }
 }
 
+// Most rows stop no timer, and most start none.
 fn lay_stops(flags: [bool; 7], buffer: &mut [u8], at: usize) -> usize
     ensures { λ r. ⌜ Laid (now (buffer .entry)) at (byNumber Message.Stop flags) r (now (buffer .exit)) ⌝ }
 {
+    if count_of(flags) == 0 {
+        return at;
+    }
     let at = lay_when(flags[0], Message::Stop { timer: 301 }, buffer, at);
     let at = lay_when(flags[1], Message::Stop { timer: 302 }, buffer, at);
     let at = lay_when(flags[2], Message::Stop { timer: 303 }, buffer, at);
@@ -65,6 +69,9 @@ fn lay_stops(flags: [bool; 7], buffer: &mut [u8], at: usize) -> usize
 fn lay_starts(flags: [bool; 7], code: u8, buffer: &mut [u8], at: usize) -> usize
     ensures { λ r. ⌜ Laid (now (buffer .entry)) at (byNumber (starting code) flags) r (now (buffer .exit)) ⌝ }
 {
+    if count_of(flags) == 0 {
+        return at;
+    }
     let at = lay_when(
         flags[0],
         Message::Start {

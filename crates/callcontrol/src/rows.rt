@@ -1,12 +1,14 @@
-// The steps: for each situation, what each event does. A row is a sentence of verbs on a draft, in the paper's order; what has no row is
-// refused. Beside a row stands its clause of EN 300 392-2, or H for a house choice.
+// The steps: for each situation, what each event does. A row is a sum of orders, and what has no row is refused. Beside a row stands its
+// clause of EN 300 392-2, or H for a house choice.
 ghost use mathlib.Core.Path.{_≡_};
-ghost use Prim.Native.Nat.{_<_};
-ghost use Rattle.callcontrol.specs.Rows.{releasing, released, disconnected, timedOut, expiry, idle, moCallSetup, mtCallSetup, demands, ceases, informed, cut, activeExpiry, activeUp, asks, activeBroken, activeRestoring, wait, confirmed, callDisconnect, active, inState, rowFor};
+ghost use mathlib.Core.Bool.{cond, _||_};
+ghost use Prim.Native.Nat.{_+_, _≤_};
+ghost use lib.Dec.{eqb};
+ghost use Rattle.callcontrol.specs.Rows.{releasing, released, disconnected, expiry, idle, moCallSetup, mtCallSetup, demands, ceases, informed, cut, activeExpiry, activeUp, asks, activeBroken, activeRestoring, wait, callDisconnect, active, inState, rowFor};
+ghost use Rattle.callcontrol.specs.Settle.{drawn, noneRow, rowOf, rowAsking, rowNaming, RELEASE, RELEASE-INDICATION, planeGranted, planeOrOff, askedAfter, restarting, codeAfter};
 use crate::call::Call;
 use crate::call::Path;
 use crate::call::State;
-use crate::draft::Draft;
 use crate::draft::T301;
 use crate::draft::T302;
 use crate::draft::T303;
@@ -14,287 +16,399 @@ use crate::draft::T306;
 use crate::draft::T308;
 use crate::draft::T310;
 use crate::draft::T311;
+use crate::row::ALERT;
+use crate::row::BROKEN;
+use crate::row::CALL_ACTIVE;
+use crate::row::CANCEL;
+use crate::row::COMPLETE;
+use crate::row::CONFIRMED;
+use crate::row::ENDED;
+use crate::row::EXPIRED_301;
+use crate::row::EXPIRED_302;
+use crate::row::EXPIRED_303;
+use crate::row::EXPIRED_306;
+use crate::row::EXPIRED_308;
+use crate::row::EXPIRED_310;
+use crate::row::EXPIRED_311;
+use crate::row::KEPT_PLANE;
+use crate::row::MO_CALL_SETUP;
+use crate::row::MODIFY_INDICATION;
+use crate::row::MT_CALL_SETUP;
+use crate::row::OFF;
+use crate::row::OVER;
+use crate::row::PLANE_1;
+use crate::row::PLANE_2;
+use crate::row::PLANE_3;
+use crate::row::PROCEED;
+use crate::row::RELEASE;
+use crate::row::RELEASE_CONFIRM;
+use crate::row::RELEASE_INDICATION;
+use crate::row::RESTORING;
+use crate::row::Row;
+use crate::row::SAME_PLANE;
+use crate::row::SENT;
+use crate::row::SETUP_CONFIRM;
+use crate::row::SETUP_INDICATION;
+use crate::row::START_301;
+use crate::row::START_302;
+use crate::row::START_303;
+use crate::row::START_306;
+use crate::row::START_310;
+use crate::row::STAY;
+use crate::row::STOP_301;
+use crate::row::STOP_302;
+use crate::row::STOP_303;
+use crate::row::STOP_306;
+use crate::row::TX_INDICATION;
+use crate::row::U_CALL_RESTORE;
+use crate::row::U_CONNECT;
+use crate::row::U_INFO;
+use crate::row::U_RELEASE;
+use crate::row::U_SETUP;
+use crate::row::U_TX_CEASED;
+use crate::row::U_TX_DEMAND;
+use crate::row::UP;
+use crate::row::WAIT;
 use records::events::Event;
-use records::messages::Message;
 
 // What several situations share.
 
 // RELEASE request where the call is known to the network (14.5.1.3.1).
-fn releasing(call: Call) -> Draft
-    ensures { λ r. ⌜ r ≡ releasing call ⌝ }
+fn releasing(call: Call) -> Row
+    ensures { λ r. ⌜ drawn call r ≡ releasing call ⌝ }
 {
-    Draft::new(call).release(1)
+    Row::asking(call, RELEASE, 0, 1)
 }
 
 // The network has ended the call (14.5.1.3.3).
-fn released(call: Call) -> Draft
-    ensures { λ r. ⌜ r ≡ released call ⌝ }
+fn released(call: Call) -> Row
+    ensures { λ r. ⌜ drawn call r ≡ released call ⌝ }
 {
-    Draft::new(call)
-        .stop_all()
-        .off()
-        .tell(Message::ReleaseIndication { cause: 3 })
-        .over()
+    Row::of(call, ENDED, 3)
 }
 
 // The network ends the call and wants U-RELEASE with the received identifier (14.5.1.3.3).
-fn disconnected(id: u16, call: Call) -> Draft
-    ensures { λ r. ⌜ r ≡ disconnected id call ⌝ }
+fn disconnected(id: u16, call: Call) -> Row
+    ensures { λ r. ⌜ drawn call r ≡ disconnected id call ⌝ }
 {
-    Draft::new(call)
-        .stop_all()
-        .off()
-        .say(Message::URelease { id })
-        .tell(Message::ReleaseIndication { cause: 3 })
-        .over()
+    Row::naming(call, ENDED + U_RELEASE, id, 3)
 }
 
-// Expiry of T301, T302, T303, T306 (H) and T310 (14.5.1.3.4).
-fn timed_out(k: usize, call: Call) -> Draft
-    requires { ⌜ k < 7 ⌝ }
-    ensures { λ r. ⌜ r ≡ timedOut k call ⌝ }
+// Expiry of T301, T302, T303, T306 (H) and T310 (14.5.1.3.4), where the timer runs.
+fn timed_out(running: bool, expired: u64, call: Call) -> Row
+    requires { ⌜ expired ≤ 0x700000000000 ⌝ }
+    ensures { λ r. ⌜ r ≡ cond running (rowAsking call (expired + RELEASE + RELEASE-INDICATION) 0 2) noneRow ⌝ }
+{
+    if running {
+        return Row::asking(call, expired + RELEASE + RELEASE_INDICATION, 0, 2);
+    }
+    Row::none()
+}
+
+fn expiry(timer: u16, call: Call) -> Row
+    ensures { λ r. ⌜ drawn call r ≡ expiry timer call ⌝ }
 {
     let timers = call.timers;
-    if timers[k] {
-        return Draft::new(call)
-            .expired(k)
-            .release(2)
-            .tell(Message::ReleaseIndication { cause: 2 });
-    }
-    Draft::no_row(call)
-}
-
-fn expiry(timer: u16, call: Call) -> Draft
-    ensures { λ r. ⌜ r ≡ expiry timer call ⌝ }
-{
     match timer {
-        301 => timed_out(T301, call),
-        302 => timed_out(T302, call),
-        303 => timed_out(T303, call),
-        306 => timed_out(T306, call),
-        310 => timed_out(T310, call),
-        _ => Draft::no_row(call),
+        301 => timed_out(timers[T301], EXPIRED_301, call),
+        302 => timed_out(timers[T302], EXPIRED_302, call),
+        303 => timed_out(timers[T303], EXPIRED_303, call),
+        306 => timed_out(timers[T306], EXPIRED_306, call),
+        310 => timed_out(timers[T310], EXPIRED_310, call),
+        _ => Row::none(),
     }
 }
 
-fn idle(call: Call, event: Event) -> Draft
-    ensures { λ r. ⌜ r ≡ idle call event ⌝ }
+// Grant rule G: 0 gives plane 1, or 3 in duplex; 3 gives 2; 1 and 2 give no CONFIGURE.
+fn plane_granted(grant: u8, mode: u8) -> u64
+    ensures { λ r. ⌜ r ≡ planeGranted grant mode ⌝ }
+    ensures { λ r. ⌜ r ≤ 0x3000 ⌝ }
+{
+    if grant == 0 {
+        if mode == 1 {
+            return PLANE_3;
+        }
+        return PLANE_1;
+    }
+    if grant == 3 {
+        return PLANE_2;
+    }
+    0
+}
+
+// G, with off for 1 and 2.
+fn plane_or_off(grant: u8, mode: u8) -> u64
+    ensures { λ r. ⌜ r ≡ planeOrOff grant mode ⌝ }
+    ensures { λ r. ⌜ r ≤ 0x4000 ⌝ }
+{
+    if grant == 1 {
+        return OFF;
+    }
+    if grant == 2 {
+        return OFF;
+    }
+    plane_granted(grant, mode)
+}
+
+// 0 and 1 clear asked; 2 and 3 keep it.
+fn asked_after(grant: u8, asked: u8) -> u8
+    ensures { λ r. ⌜ r ≡ askedAfter grant asked ⌝ }
+{
+    if grant == 0 {
+        return 0;
+    }
+    if grant == 1 {
+        return 0;
+    }
+    asked
+}
+
+// If reset is 1, T310 starts.
+fn restarting(reset: u8) -> u64
+    ensures { λ r. ⌜ r ≡ restarting reset ⌝ }
+    ensures { λ r. ⌜ r ≤ 0x20000000000 ⌝ }
+{
+    if reset == 1 {
+        return START_310;
+    }
+    0
+}
+
+// T310's code then: the received one, or the held one if it is 16 or T310 is left alone.
+fn code_after(reset: u8, code: u8, held: u8) -> u8
+    ensures { λ r. ⌜ r ≡ codeAfter reset code held ⌝ }
+{
+    if reset == 1 {
+        if code == 16 {
+            return held;
+        }
+        return code;
+    }
+    held
+}
+
+fn idle(call: Call, event: Event) -> Row
+    ensures { λ r. ⌜ drawn call r ≡ idle call event ⌝ }
 {
     match event {
         // 14.5.1.1.2
-        Event::SetupRequest { address, mode, ask } => Draft::new(call)
-            .go(State::MoCallSetup)
-            .store_address(address)
-            .store_mode(mode)
-            .store_asked(ask)
-            .say(Message::USetup { address, mode, ask })
-            .start(T303),
+        Event::SetupRequest { address, mode, ask } => Row {
+            orders: MO_CALL_SETUP + U_SETUP + START_303,
+            id: call.id,
+            address,
+            mode,
+            asked: ask,
+            code: call.code,
+            value: 0,
+        },
         // 14.5.1.1.1
-        Event::DSetup { id, address, mode } => Draft::new(call)
-            .go(State::MtCallSetup)
-            .store_id(id)
-            .store_address(address)
-            .store_mode(mode)
-            .tell(Message::SetupIndication { id, address, mode }),
-        _ => Draft::no_row(call),
+        Event::DSetup { id, address, mode } => Row {
+            orders: MT_CALL_SETUP + SETUP_INDICATION,
+            id,
+            address,
+            mode,
+            asked: call.asked,
+            code: call.code,
+            value: 0,
+        },
+        _ => Row::none(),
     }
 }
 
-fn mo_call_setup(call: Call, event: Event) -> Draft
-    ensures { λ r. ⌜ r ≡ moCallSetup call event ⌝ }
+fn mo_call_setup(call: Call, event: Event) -> Row
+    ensures { λ r. ⌜ drawn call r ≡ moCallSetup call event ⌝ }
 {
     match event {
         // 14.5.1.3.1
         Event::ReleaseRequest => {
             if call.sent == 0 {
-                return Draft::new(call)
-                    .cancel()
-                    .stop(T303)
-                    .tell(Message::ReleaseConfirm)
-                    .over();
+                return Row::of(call, CANCEL + STOP_303 + RELEASE_CONFIRM + OVER, 0);
             }
             releasing(call)
         }
+        // 14.5.1.1.2: an identifier came, so no local cancel from here on.
+        Event::DCallProceeding { id } => {
+            Row::naming(call, STAY + SENT + STOP_303 + START_302 + PROCEED, id, 0)
+        }
         // 14.5.1.1.2
-        Event::DCallProceeding { id } => Draft::new(call)
-            .store_id(id)
-            .store_sent(1) // an identifier came: no local cancel from here on
-            .stop(T303)
-            .start(T302)
-            .tell(Message::Proceed),
-        // 14.5.1.1.2
-        Event::DAlert { id } => Draft::new(call)
-            .store_id(id)
-            .store_sent(1)
-            .stop(T303)
-            .start(T302)
-            .tell(Message::Alert),
+        Event::DAlert { id } => Row::naming(
+            call,
+            STAY + SENT + STOP_303 + START_302 + ALERT,
+            id,
+            0,
+        ),
         // 14.5.1.1.2
         Event::DConnect {
             id,
             grant,
             mode,
             code,
-        } => Draft::new(call)
-            .store_id(id)
-            .store_mode(mode)
-            .store_code(code)
-            .store_sent(1)
-            .go(State::CallActive)
-            .stop(T302)
-            .stop(T303)
-            .start(T310)
-            .grant_or_off(grant)
-            .tell(Message::SetupConfirm { id, grant }),
+        } => Row {
+            orders: CALL_ACTIVE
+                + SENT
+                + STOP_302
+                + STOP_303
+                + START_310
+                + SETUP_CONFIRM
+                + plane_or_off(grant, mode),
+            id,
+            address: call.address,
+            mode,
+            asked: asked_after(grant, call.asked),
+            code,
+            value: grant,
+        },
         Event::DDisconnect { id } => disconnected(id, call),
         Event::DRelease { id: _ } => released(call),
         // 14.5.1.1.2
         Event::ReportSent => {
             if call.sent == 0 {
-                return Draft::new(call).store_sent(1);
+                return Row::of(call, STAY + SENT, 0);
             }
-            Draft::no_row(call)
+            Row::none()
         }
         // H
         Event::ReportFailed => {
             if call.sent == 0 {
-                return Draft::new(call)
-                    .stop(T303)
-                    .tell(Message::ReleaseIndication { cause: 4 })
-                    .over();
+                return Row::of(call, STOP_303 + RELEASE_INDICATION + OVER, 4);
             }
-            Draft::no_row(call)
+            Row::none()
         }
         Event::Expiry { timer } => expiry(timer, call),
-        _ => Draft::no_row(call),
+        _ => Row::none(),
     }
 }
 
-fn mt_call_setup(call: Call, event: Event) -> Draft
-    ensures { λ r. ⌜ r ≡ mtCallSetup call event ⌝ }
+fn mt_call_setup(call: Call, event: Event) -> Row
+    ensures { λ r. ⌜ drawn call r ≡ mtCallSetup call event ⌝ }
 {
     let timers = call.timers;
     match event {
         // 14.5.1.1.1
         Event::SetupResponse => {
             if timers[T301] {
-                return Draft::no_row(call);
+                return Row::none();
             }
-            let id = call.id;
-            Draft::new(call).say(Message::UConnect { id }).start(T301)
+            Row::of(call, STAY + U_CONNECT + START_301, 0)
         }
         Event::ReleaseRequest => releasing(call),
         // 14.5.1.1.1
         Event::DConnectAcknowledge { id: _, grant, code } => {
             if timers[T301] {
-                return Draft::new(call)
-                    .store_code(code)
-                    .go(State::CallActive)
-                    .stop(T301)
-                    .start(T310)
-                    .grant_or_off(grant)
-                    .tell(Message::Complete { grant });
+                return Row {
+                    orders: CALL_ACTIVE
+                        + STOP_301
+                        + START_310
+                        + COMPLETE
+                        + plane_or_off(grant, call.mode),
+                    id: call.id,
+                    address: call.address,
+                    mode: call.mode,
+                    asked: asked_after(grant, call.asked),
+                    code,
+                    value: grant,
+                };
             }
-            Draft::no_row(call)
+            Row::none()
         }
         Event::DDisconnect { id } => disconnected(id, call),
         Event::DRelease { id: _ } => released(call),
         Event::Expiry { timer } => expiry(timer, call),
-        _ => Draft::no_row(call),
+        _ => Row::none(),
     }
 }
 
 // The user wants to transmit, with path up (14.5.1.2.1).
-fn demands(call: Call) -> Draft
-    ensures { λ r. ⌜ r ≡ demands call ⌝ }
+fn demands(call: Call) -> Row
+    ensures { λ r. ⌜ drawn call r ≡ demands call ⌝ }
 {
-    let id = call.id;
     if call.asked != 0 {
-        return Draft::no_row(call);
+        return Row::none();
     }
     if call.plane == 2 {
-        return Draft::new(call)
-            .say(Message::UTxDemand { id })
-            .store_asked(1);
+        return Row::asking(call, STAY + U_TX_DEMAND, 1, 0);
     }
     if call.plane == 4 {
-        return Draft::new(call)
-            .say(Message::UTxDemand { id })
-            .store_asked(1);
+        return Row::asking(call, STAY + U_TX_DEMAND, 1, 0);
     }
-    Draft::no_row(call)
+    Row::none()
 }
 
 // The user stops, with path up (14.5.1.2.1).
-fn ceases(call: Call) -> Draft
-    ensures { λ r. ⌜ r ≡ ceases call ⌝ }
+fn ceases(call: Call) -> Row
+    ensures { λ r. ⌜ drawn call r ≡ ceases call ⌝ }
 {
-    let id = call.id;
     if call.plane == 1 {
-        return Draft::new(call).say(Message::UTxCeased { id }).off();
+        return Row::of(call, STAY + U_TX_CEASED + OFF, 0);
     }
     if call.asked == 1 {
-        return Draft::new(call)
-            .say(Message::UTxCeased { id })
-            .store_asked(0);
+        return Row::asking(call, STAY + U_TX_CEASED, 0, 0);
     }
-    Draft::no_row(call)
+    Row::none()
 }
 
 // D-INFO with path up (14.5.1.2.3).
-fn informed(call: Call, reset: u8, code: u8, mode: u8) -> Draft
-    ensures { λ r. ⌜ r ≡ informed reset code mode call ⌝ }
+fn informed(call: Call, reset: u8, code: u8, mode: u8) -> Row
+    ensures { λ r. ⌜ drawn call r ≡ informed reset code mode call ⌝ }
 {
     if mode == call.mode {
-        return Draft::new(call)
-            .restart(reset, code)
-            .same_plane()
-            .tell(Message::ModifyIndication { mode });
+        return Row {
+            orders: STAY + SAME_PLANE + MODIFY_INDICATION + restarting(reset),
+            id: call.id,
+            address: call.address,
+            mode,
+            asked: call.asked,
+            code: code_after(reset, code, call.code),
+            value: mode,
+        };
     }
-    Draft::new(call)
-        .restart(reset, code)
-        .store_mode(mode)
-        .off()
-        .tell(Message::ModifyIndication { mode })
+    Row {
+        orders: STAY + OFF + MODIFY_INDICATION + restarting(reset),
+        id: call.id,
+        address: call.address,
+        mode,
+        asked: call.asked,
+        code: code_after(reset, code, call.code),
+        value: mode,
+    }
 }
 
-// BREAK with path up (14.5.1.2.4): a permission that is cut is asked for again (H).
-fn cut(call: Call) -> Draft
-    ensures { λ r. ⌜ r ≡ cut call ⌝ }
+// BREAK with path up: a permission that is cut is asked for again (H).
+fn asked_after_cut(call: Call) -> u8
+    ensures { λ r. ⌜ r ≡ cond (eqb (call .plane) 1 || eqb (call .plane) 3) 1 (call .asked) ⌝ }
 {
-    let asked = call.asked;
     if call.plane == 1 {
-        return Draft::new(call).store_asked(1).on_path(Path::Broken).off(); // a transmission is cut
+        return 1; // a transmission is cut
     }
     if call.plane == 3 {
-        return Draft::new(call).store_asked(1).on_path(Path::Broken).off();
+        return 1;
     }
-    Draft::new(call)
-        .store_asked(asked)
-        .on_path(Path::Broken)
-        .off()
+    call.asked
+}
+
+// BREAK with path up (14.5.1.2.4).
+fn cut(call: Call) -> Row
+    ensures { λ r. ⌜ drawn call r ≡ cut call ⌝ }
+{
+    Row::asking(call, STAY + BROKEN + OFF, asked_after_cut(call), 0)
 }
 
 // Expiry with path up: T311 ends the transmission (14.5.1.2.1).
-fn active_expiry(timer: u16, call: Call) -> Draft
-    ensures { λ r. ⌜ r ≡ activeExpiry timer call ⌝ }
+fn active_expiry(timer: u16, call: Call) -> Row
+    ensures { λ r. ⌜ drawn call r ≡ activeExpiry timer call ⌝ }
 {
-    let id = call.id;
     let timers = call.timers;
     if timer == 311 {
         if timers[T311] {
-            return Draft::new(call)
-                .expired(T311)
-                .say(Message::UTxCeased { id })
-                .off();
+            return Row::of(call, EXPIRED_311 + STAY + U_TX_CEASED + OFF, 0);
         }
-        return Draft::no_row(call);
+        return Row::none();
     }
     expiry(timer, call)
 }
 
-fn active_up(call: Call, event: Event) -> Draft
-    ensures { λ r. ⌜ r ≡ activeUp call event ⌝ }
+fn active_up(call: Call, event: Event) -> Row
+    ensures { λ r. ⌜ drawn call r ≡ activeUp call event ⌝ }
 {
     match event {
         Event::ReleaseRequest => releasing(call),
@@ -305,10 +419,7 @@ fn active_up(call: Call, event: Event) -> Draft
             ceases(call)
         }
         // 14.5.1.2.3
-        Event::ModifyRequest { mode } => {
-            let id = call.id;
-            Draft::new(call).say(Message::UInfo { id, mode })
-        }
+        Event::ModifyRequest { mode } => Row::of(call, STAY + U_INFO, mode),
         Event::DInfo {
             id: _,
             reset,
@@ -316,38 +427,31 @@ fn active_up(call: Call, event: Event) -> Draft
             mode,
         } => informed(call, reset, code, mode),
         // 14.5.1.2.1
-        Event::DTxGranted { id: _, grant } => Draft::new(call)
-            .grant(grant)
-            .tell(Message::TxIndication { told: grant }),
+        Event::DTxGranted { id: _, grant } => Row {
+            orders: STAY + TX_INDICATION + plane_granted(grant, call.mode),
+            id: call.id,
+            address: call.address,
+            mode: call.mode,
+            asked: asked_after(grant, call.asked),
+            code: call.code,
+            value: grant,
+        },
         // 14.5.1.2.1
-        Event::DTxCeased { id: _ } => Draft::new(call)
-            .off()
-            .tell(Message::TxIndication { told: 4 }),
+        Event::DTxCeased { id: _ } => Row::of(call, STAY + OFF + TX_INDICATION, 4),
         // 14.5.1.2.1
         Event::DTxInterrupt { id: _, grant } => {
             if grant == 3 {
-                return Draft::new(call)
-                    .plane(2)
-                    .tell(Message::TxIndication { told: 5 });
+                return Row::of(call, STAY + PLANE_2 + TX_INDICATION, 5);
             }
-            Draft::new(call)
-                .plane(4)
-                .tell(Message::TxIndication { told: 5 })
+            Row::of(call, STAY + OFF + TX_INDICATION, 5)
         }
         // 14.5.1.2.1
-        Event::DTxWait { id: _ } => {
-            let plane = call.plane;
-            Draft::new(call)
-                .go(State::Wait)
-                .keep(plane)
-                .off()
-                .tell(Message::TxIndication { told: 6 })
-        }
+        Event::DTxWait { id: _ } => Row::of(call, WAIT + OFF + TX_INDICATION, 6),
         Event::DDisconnect { id } => disconnected(id, call),
         Event::DRelease { id: _ } => released(call),
         Event::Break => cut(call),
         Event::Expiry { timer } => active_expiry(timer, call),
-        _ => Draft::no_row(call),
+        _ => Row::none(),
     }
 }
 
@@ -364,38 +468,34 @@ fn asks(call: Call) -> u8
     0
 }
 
-fn active_broken(call: Call, event: Event) -> Draft
-    ensures { λ r. ⌜ r ≡ activeBroken call event ⌝ }
+fn active_broken(call: Call, event: Event) -> Row
+    ensures { λ r. ⌜ drawn call r ≡ activeBroken call event ⌝ }
 {
     match event {
         Event::ReleaseRequest => releasing(call),
         // 14.5.1.2.4
         Event::TxRequest { go } => {
             if call.asked == go {
-                return Draft::no_row(call);
+                return Row::none();
             }
-            Draft::new(call).store_asked(go)
+            Row::asking(call, STAY, go, 0)
         }
         Event::DDisconnect { id } => disconnected(id, call),
         Event::DRelease { id: _ } => released(call),
         // 14.5.1.2.4
-        Event::Resume => {
-            let id = call.id;
-            let address = call.address;
-            let ask = asks(call);
-            Draft::new(call)
-                .store_asked(ask)
-                .on_path(Path::Restoring)
-                .say(Message::UCallRestore { id, address, ask })
-                .start(T306)
-        }
+        Event::Resume => Row::asking(
+            call,
+            STAY + RESTORING + U_CALL_RESTORE + START_306,
+            asks(call),
+            0,
+        ),
         Event::Expiry { timer } => expiry(timer, call),
-        _ => Draft::no_row(call),
+        _ => Row::none(),
     }
 }
 
-fn active_restoring(call: Call, event: Event) -> Draft
-    ensures { λ r. ⌜ r ≡ activeRestoring call event ⌝ }
+fn active_restoring(call: Call, event: Event) -> Row
+    ensures { λ r. ⌜ drawn call r ≡ activeRestoring call event ⌝ }
 {
     match event {
         Event::ReleaseRequest => releasing(call),
@@ -405,109 +505,99 @@ fn active_restoring(call: Call, event: Event) -> Draft
             grant,
             reset,
             code,
-        } => Draft::new(call)
-            .stop(T306)
-            .on_path(Path::Up)
-            .grant(grant)
-            .restart(reset, code) // r 0 leaves T310 as it is
-            .tell(Message::TxIndication { told: grant }),
+        } => Row {
+            orders: STAY
+                + STOP_306
+                + UP
+                + TX_INDICATION
+                + plane_granted(grant, call.mode)
+                + restarting(reset), // r 0 leaves T310 as it is
+            id: call.id,
+            address: call.address,
+            mode: call.mode, // the call that was cut
+            asked: asked_after(grant, call.asked),
+            code: code_after(reset, code, call.code),
+            value: grant,
+        },
         Event::DDisconnect { id } => disconnected(id, call),
         Event::DRelease { id: _ } => released(call),
         // 14.5.1.2.4
-        Event::Break => Draft::new(call).stop(T306).on_path(Path::Broken).off(),
+        Event::Break => Row::of(call, STAY + STOP_306 + BROKEN + OFF, 0),
         Event::Expiry { timer } => expiry(timer, call),
-        _ => Draft::no_row(call),
+        _ => Row::none(),
     }
 }
 
-fn wait(call: Call, event: Event) -> Draft
-    ensures { λ r. ⌜ r ≡ wait call event ⌝ }
+fn wait(call: Call, event: Event) -> Row
+    ensures { λ r. ⌜ drawn call r ≡ wait call event ⌝ }
 {
     match event {
         Event::ReleaseRequest => releasing(call),
         // 14.5.1.2.1
         Event::DTxContinue { id: _, go } => {
-            let kept = call.kept;
             if go == 1 {
-                return Draft::new(call)
-                    .go(State::CallActive)
-                    .plane(kept)
-                    .tell(Message::TxIndication { told: 7 });
+                return Row::of(call, CALL_ACTIVE + KEPT_PLANE + TX_INDICATION, 7);
             }
-            Draft::new(call)
-                .go(State::CallActive)
-                .off()
-                .tell(Message::TxIndication { told: 8 })
+            Row::of(call, CALL_ACTIVE + OFF + TX_INDICATION, 8)
         }
         Event::DDisconnect { id } => disconnected(id, call),
         Event::DRelease { id: _ } => released(call),
         // 14.5.1.2.4: the permission was lost with the pause, so asked stays.
-        Event::Break => Draft::new(call)
-            .go(State::CallActive)
-            .on_path(Path::Broken)
-            .off()
-            .tell(Message::TxIndication { told: 8 }),
+        Event::Break => Row::of(call, CALL_ACTIVE + BROKEN + OFF + TX_INDICATION, 8),
         Event::Expiry { timer } => expiry(timer, call),
-        _ => Draft::no_row(call),
+        _ => Row::none(),
     }
 }
 
-// The end that this side asked for.
-fn confirmed(draft: Draft) -> Draft
-    ensures { λ r. ⌜ r ≡ confirmed draft ⌝ }
-{
-    draft.stop_all().off().tell(Message::ReleaseConfirm).over()
-}
-
-fn call_disconnect(call: Call, event: Event) -> Draft
-    ensures { λ r. ⌜ r ≡ callDisconnect call event ⌝ }
+fn call_disconnect(call: Call, event: Event) -> Row
+    ensures { λ r. ⌜ drawn call r ≡ callDisconnect call event ⌝ }
 {
     match event {
         // 14.5.1.3.5
         Event::DDisconnect { id } => {
             if call.sent == 0 {
-                return disconnected(id, call).cancel();
+                return Row::naming(call, CANCEL + ENDED + U_RELEASE, id, 3);
             }
             disconnected(id, call)
         }
         // 14.5.1.3.5
         Event::DRelease { id: _ } => {
             if call.sent == 0 {
-                return released(call).cancel();
+                return Row::of(call, CANCEL + ENDED, 3);
             }
-            confirmed(Draft::new(call))
+            Row::of(call, CONFIRMED, 0)
         }
         // 14.5.1.3.1
         Event::ReportSent => {
             if call.sent == 0 {
-                return Draft::new(call).store_sent(1);
+                return Row::of(call, STAY + SENT, 0);
             }
-            Draft::no_row(call)
+            Row::none()
         }
         // 14.5.1.3.1
         Event::ReportFailed => {
             if call.sent == 0 {
-                return confirmed(Draft::new(call));
+                return Row::of(call, CONFIRMED, 0);
             }
-            Draft::no_row(call)
+            Row::none()
         }
         // 14.5.1.3.4
         Event::Expiry { timer } => {
             let timers = call.timers;
             if timer == 308 {
                 if timers[T308] {
-                    return confirmed(Draft::new(call).expired(T308));
+                    return Row::of(call, EXPIRED_308 + CONFIRMED, 0);
                 }
-                return Draft::no_row(call);
+                return Row::none();
             }
-            Draft::no_row(call)
+            Row::none()
         }
-        _ => Draft::no_row(call),
+        _ => Row::none(),
     }
 }
 
-fn active(path: Path, call: Call, event: Event) -> Draft
-    ensures { λ r. ⌜ r ≡ active path call event ⌝ }
+fn active(path: Path, call: Call, event: Event) -> Row
+    ensures { λ r. ⌜ drawn call r ≡ active path call event ⌝ }
 {
     match path {
         Path::Up => active_up(call, event),
@@ -516,8 +606,8 @@ fn active(path: Path, call: Call, event: Event) -> Draft
     }
 }
 
-fn in_state(state: State, call: Call, event: Event) -> Draft
-    ensures { λ r. ⌜ r ≡ inState state call event ⌝ }
+fn in_state(state: State, call: Call, event: Event) -> Row
+    ensures { λ r. ⌜ drawn call r ≡ inState state call event ⌝ }
 {
     let path = call.path;
     match state {
@@ -531,8 +621,8 @@ fn in_state(state: State, call: Call, event: Event) -> Draft
 }
 
 // What an event does to a call.
-pub fn row_for(call: Call, event: Event) -> Draft
-    ensures { λ r. ⌜ r ≡ rowFor call event ⌝ }
+pub fn row_for(call: Call, event: Event) -> Row
+    ensures { λ r. ⌜ drawn call r ≡ rowFor call event ⌝ }
 {
     let state = call.state;
     in_state(state, call, event)

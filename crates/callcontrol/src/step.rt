@@ -7,6 +7,7 @@ use crate::draft::Draft;
 use crate::orders::lay_orders;
 use crate::orders::orders_size;
 use crate::rows::row_for;
+use crate::settle::settle;
 use records::events::Event;
 use records::events::EventRead;
 use records::events::read_event;
@@ -139,15 +140,15 @@ fn decide(call: Call, event: Event, buffer: &mut [u8]) -> Stepped
             call,
         };
     }
-    let draft = row_for(call, event);
-    if draft.taken {
-        return carry(call, draft, buffer);
+    let row = row_for(call, event);
+    if row.orders == 0 {
+        return Stepped {
+            answer: Answer::NoRow,
+            count: 0,
+            call,
+        };
     }
-    Stepped {
-        answer: Answer::NoRow,
-        count: 0,
-        call,
-    }
+    carry(call, settle(call, row), buffer)
 }
 
 pub fn step(call: Call, event: &[u8], buffer: &mut [u8]) -> Stepped

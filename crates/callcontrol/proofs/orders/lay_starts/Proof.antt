@@ -1,7 +1,8 @@
--- The seven orders one after the other.
+-- None, or the seven orders one after the other.
+use mathlib.Core.Path.{_∙_, sym}
 use borrow.Author.Needs.{needs}
+use Rattle.callcontrol.proofs.Laying.{lay-then, lay-none, no-orders}
 use Rattle.callcontrol.specs.Orders.{byNumber, starting}
-use Rattle.callcontrol.proofs.Laying.{lay-then}
 use Rattle.callcontrol.proofs.orders.lay_starts.Statement.{statement}
 use Rattle.callcontrol.proofs.orders.lay_starts.Tie as tie
 
@@ -10,6 +11,8 @@ unfolding byNumber starting
 lay-starts-spec =
     tie.close
     (tie.spec
+    (λ c κs. search needs)
+    (λ c. lay-none (no-orders (starting (c .before .before .before .args .code)) _ (sym (c .before .count-of .ensures .0) ∙ c .if1 .taken)))
     (λ c. search needs)
     (λ c κs. search needs)
     (λ c. search needs)

@@ -1,7 +1,9 @@
--- The seven orders one after the other.
+-- None, or the seven orders one after the other.
+use mathlib.Core.Path.{_∙_, sym}
 use borrow.Author.Needs.{needs}
+use Rattle.callcontrol.proofs.Laying.{lay-then, lay-none, no-orders}
 use Rattle.callcontrol.specs.Orders.{byNumber}
-use Rattle.callcontrol.proofs.Laying.{lay-then}
+use Rattle.records.specs.declared.messages.Message.{Message}
 use Rattle.callcontrol.proofs.orders.lay_stops.Statement.{statement}
 use Rattle.callcontrol.proofs.orders.lay_stops.Tie as tie
 
@@ -10,6 +12,8 @@ unfolding byNumber
 lay-stops-spec =
     tie.close
     (tie.spec
+    (λ c κs. search needs)
+    (λ c. lay-none (no-orders Message.Stop _ (sym (c .before .count-of .ensures .0) ∙ c .if1 .taken)))
     (λ c. search needs)
     (λ c κs. search needs)
     (λ c. search needs)

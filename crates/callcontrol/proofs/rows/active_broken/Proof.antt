@@ -1,16 +1,16 @@
--- Each row is its verbs one after the other.
+-- Each row is the one of that name.
+use mathlib.Core.List.{List, [], _∷_}
+use mathlib.Core.Path.{_≡_, refl, _∙_}
+use lib.Dec.{T}
 use borrow.Author.Needs.{needs}
 use borrow.Author.Tests.{eq-eqb, ne-eqb}
-use mathlib.Core.Path.{_∙_}
-use mathlib.Core.Path.{_≡_, refl}
-use mathlib.Core.List.{List, [], _∷_}
 use Prim.Native.Nat.{ℕ}
-use lib.Dec.{T}
-use Rattle.records.specs.declared.events.Event.{Event}
-use Rattle.callcontrol.specs.declared.call.Call.{Call}
-use Rattle.callcontrol.specs.Draft.{noRow}
+use Rattle.callcontrol.proofs.Settled.{none-is, reasked-is, resumed-is}
 use Rattle.callcontrol.proofs.Tags.{hasTag, oneOf}
+use Rattle.callcontrol.specs.Draft.{noRow}
 use Rattle.callcontrol.specs.Rows.{activeBroken}
+use Rattle.callcontrol.specs.declared.call.Call.{Call}
+use Rattle.records.specs.declared.events.Event.{Event}
 use Rattle.callcontrol.proofs.rows.active_broken.Statement.{statement}
 use Rattle.callcontrol.proofs.rows.active_broken.Tie as tie
 
@@ -54,27 +54,25 @@ active-broken-spec =
     (λ c κs. search needs)
     (λ c. search needs)
     (λ c κs. search needs)
-    (λ c. rw (c .before .before .before .before .event .given .1, eq-eqb _ _ (c .before .if1 .taken)) (c .no-row .ensures))
-    (λ c κs. search needs)
-    (λ c κs. search needs)
-    (λ c. search needs)
+    (λ c. rw (c .before .before .before .before .event .given .1, eq-eqb _ _ (c .before .if1 .taken), c .none .ensures) (none-is _))
     (λ c κs. search needs)
     (λ c. search needs)
     (λ c κs. search needs)
     (λ c. search needs)
     (λ c κs. search needs)
-    (λ c κs. search needs)
-    (λ c κs. search needs)
-    (λ c κs. search needs)
+    (λ c. search needs)
+    (λ c. search needs)
+    (λ c. search needs)
+    (λ c. search needs)
     (λ c κs. search needs)
     (λ c κs. search needs)
     (λ c. search needs)
     (λ c κs. search needs)
     (λ c κs. search needs)
     (λ c. rw (c .before .enum-told .given .1) (c .releasing .ensures))
-    (λ c. rw (c .before .before .before .before .before .event .given .1, ne-eqb _ _ (c .before .before .if1 .left)) (cc))
+    (λ c. rw (c .before .before .before .before .event .given .1, ne-eqb _ _ (c .before .if1 .left), c .asking .ensures) (reasked-is _ _))
     (λ c. rw (c .before .before .event2 .given .1) (c .disconnected .ensures))
     (λ c. rw (c .before .enum-told2 .given .1) (c .released .ensures))
-    (λ c. rw (c .before .before .before .before .before .before .enum-told3 .given .1) (cc))
+    (λ c. rw (c .before .before .enum-told3 .given .1, c .asking2 .ensures, c .before .asks .ensures) (resumed-is _))
     (λ c. rw (c .before .before .event3 .given .1) (c .expiry .ensures))
-    (λ c. c .no-row2 .ensures ∙ no-row (c .before .before .args .call) (c .before .before .args .event) (oneOf others (c .before .before .args .event) (c .before .match .keys7))))
+    (λ c. rw (c .none2 .ensures) (none-is (c .before .before .args .call) ∙ no-row (c .before .before .args .call) (c .before .before .args .event) (oneOf others (c .before .before .args .event) (c .before .match .keys7)))))

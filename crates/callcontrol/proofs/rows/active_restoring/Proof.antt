@@ -1,15 +1,15 @@
--- Each row is its verbs one after the other.
-use borrow.Author.Needs.{needs}
-use mathlib.Core.Path.{_∙_}
-use mathlib.Core.Path.{_≡_, refl}
+-- Each row is the one of that name.
 use mathlib.Core.List.{List, [], _∷_}
-use Prim.Native.Nat.{ℕ}
+use mathlib.Core.Path.{_≡_, refl, _∙_}
 use lib.Dec.{T}
-use Rattle.records.specs.declared.events.Event.{Event}
-use Rattle.callcontrol.specs.declared.call.Call.{Call}
-use Rattle.callcontrol.specs.Draft.{noRow}
+use borrow.Author.Needs.{needs}
+use Prim.Native.Nat.{ℕ}
+use Rattle.callcontrol.proofs.Settled.{broken-again-is, none-is, restored-is}
 use Rattle.callcontrol.proofs.Tags.{hasTag, oneOf}
+use Rattle.callcontrol.specs.Draft.{noRow}
 use Rattle.callcontrol.specs.Rows.{activeRestoring}
+use Rattle.callcontrol.specs.declared.call.Call.{Call}
+use Rattle.records.specs.declared.events.Event.{Event}
 use Rattle.callcontrol.proofs.rows.active_restoring.Statement.{statement}
 use Rattle.callcontrol.proofs.rows.active_restoring.Tie as tie
 
@@ -52,12 +52,8 @@ active-restoring-spec =
     (λ c. search needs)
     (λ c κs. search needs)
     (λ c. search needs)
-    (λ c κs. search needs)
-    (λ c κs. search needs)
-    (λ c κs. search needs)
-    (λ c κs. search needs)
-    (λ c κs. search needs)
-    (λ c κs. search needs)
+    (λ c. search needs)
+    (λ c. search needs)
     (λ c. search needs)
     (λ c κs. search needs)
     (λ c. search needs)
@@ -65,15 +61,22 @@ active-restoring-spec =
     (λ c. search needs)
     (λ c κs. search needs)
     (λ c κs. search needs)
+    (λ c. search needs)
     (λ c κs. search needs)
+    (λ c. search needs)
+    (λ c κs. search needs)
+    (λ c. search needs)
+    (λ c. search needs)
+    (λ c. search needs)
+    (λ c. search needs)
     (λ c κs. search needs)
     (λ c. search needs)
     (λ c κs. search needs)
     (λ c κs. search needs)
     (λ c. rw (c .before .enum-told .given .1) (c .releasing .ensures))
-    (λ c. rw (c .before .before .before .before .before .before .before .event .given .1, c .tell .ensures, c .before .restart .ensures, c .before .before .grant .ensures, c .before .before .before .on-path .ensures, c .before .before .before .before .stop .ensures, c .before .before .before .before .before .new .ensures))
+    (λ c. rw (c .before .before .before .before .before .event .given .1, c .code-after .ensures, c .before .asked-after .ensures, c .before .before .restarting .ensures .0, c .before .before .before .plane-granted .ensures .0) (restored-is _ _ _ _))
     (λ c. rw (c .before .before .event2 .given .1) (c .disconnected .ensures))
     (λ c. rw (c .before .enum-told2 .given .1) (c .released .ensures))
-    (λ c. rw (c .before .before .before .before .enum-told3 .given .1) (cc))
+    (λ c. rw (c .before .enum-told3 .given .1, c .of .ensures) (broken-again-is _))
     (λ c. rw (c .before .before .event3 .given .1) (c .expiry .ensures))
-    (λ c. c .no-row .ensures ∙ no-row (c .before .before .args .call) (c .before .before .args .event) (oneOf others (c .before .before .args .event) (c .before .match .keys7))))
+    (λ c. rw (c .none .ensures) (none-is (c .before .before .args .call) ∙ no-row (c .before .before .args .call) (c .before .before .args .event) (oneOf others (c .before .before .args .event) (c .before .match .keys7)))))

@@ -1,16 +1,16 @@
--- Each row is its verbs one after the other.
+-- Each row is the one of that name.
+use mathlib.Core.List.{List, [], _∷_}
+use mathlib.Core.Path.{_≡_, refl, _∙_}
+use lib.Dec.{T}
 use borrow.Author.Needs.{needs}
 use borrow.Author.Tests.{eq-eqb, ne-eqb}
-use mathlib.Core.Path.{_∙_}
-use mathlib.Core.Path.{_≡_, refl}
-use mathlib.Core.List.{List, [], _∷_}
 use Prim.Native.Nat.{ℕ}
-use lib.Dec.{T}
-use Rattle.records.specs.declared.events.Event.{Event}
-use Rattle.callcontrol.specs.declared.call.Call.{Call}
-use Rattle.callcontrol.specs.Draft.{noRow}
+use Rattle.callcontrol.proofs.Settled.{granted-is, interrupted-for-is, interrupted-is, modified-is, none-is, paused-is, tx-ceased-is}
 use Rattle.callcontrol.proofs.Tags.{hasTag, oneOf}
+use Rattle.callcontrol.specs.Draft.{noRow}
 use Rattle.callcontrol.specs.Rows.{activeUp}
+use Rattle.callcontrol.specs.declared.call.Call.{Call}
+use Rattle.records.specs.declared.events.Event.{Event}
 use Rattle.callcontrol.proofs.rows.active_up.Statement.{statement}
 use Rattle.callcontrol.proofs.rows.active_up.Tie as tie
 
@@ -57,31 +57,30 @@ active-up-spec =
     (λ c. rw (c .before .before .before .event .given .1, eq-eqb _ _ (c .before .if1 .taken)) (c .demands .ensures))
     (λ c κs. search needs)
     (λ c. search needs)
-    (λ c κs. search needs)
-    (λ c κs. search needs)
     (λ c. search needs)
     (λ c κs. search needs)
     (λ c. search needs)
     (λ c κs. search needs)
-    (λ c κs. search needs)
+    (λ c. search needs)
+    (λ c. search needs)
     (λ c κs. search needs)
     (λ c. search needs)
     (λ c κs. search needs)
-    (λ c κs. search needs)
-    (λ c κs. search needs)
+    (λ c. search needs)
+    (λ c. search needs)
     (λ c. search needs)
     (λ c κs. search needs)
-    (λ c κs. search needs)
-    (λ c κs. search needs)
-    (λ c. rw (c .before .before .before .before .before .event5 .given .1, eq-eqb _ _ (c .before .before .before .if2 .taken)) (cc))
-    (λ c κs. search needs)
-    (λ c κs. search needs)
-    (λ c κs. search needs)
+    (λ c. search needs)
+    (λ c. search needs)
     (λ c. search needs)
     (λ c κs. search needs)
+    (λ c. rw (c .before .before .before .event5 .given .1, eq-eqb _ _ (c .before .if2 .taken), c .of3 .ensures) (interrupted-for-is _))
+    (λ c. search needs)
+    (λ c. search needs)
     (λ c κs. search needs)
-    (λ c κs. search needs)
-    (λ c κs. search needs)
+    (λ c. search needs)
+    (λ c. search needs)
+    (λ c. search needs)
     (λ c κs. search needs)
     (λ c. search needs)
     (λ c κs. search needs)
@@ -94,14 +93,14 @@ active-up-spec =
     (λ c κs. search needs)
     (λ c. rw (c .before .enum-told .given .1) (c .releasing .ensures))
     (λ c. rw (c .before .before .before .event .given .1, ne-eqb _ _ (c .before .if1 .left)) (c .ceases .ensures))
-    (λ c. rw (c .before .before .before .event2 .given .1) (cc))
+    (λ c. rw (c .before .before .event2 .given .1, c .of .ensures) (modified-is _ _))
     (λ c. rw (c .before .before .event3 .given .1) (c .informed .ensures))
-    (λ c. rw (c .before .before .before .before .event4 .given .1) (cc))
-    (λ c. rw (c .before .before .before .enum-told2 .given .1) (cc))
-    (λ c. rw (c .before .before .before .before .before .event5 .given .1, ne-eqb _ _ (c .before .before .before .if2 .left)) (cc))
-    (λ c. rw (c .before .before .before .before .before .enum-told3 .given .1) (cc))
+    (λ c. rw (c .before .before .before .event4 .given .1, c .asked-after .ensures, c .before .plane-granted .ensures .0) (granted-is _ _))
+    (λ c. rw (c .before .enum-told2 .given .1, c .of2 .ensures) (tx-ceased-is _))
+    (λ c. rw (c .before .before .before .event5 .given .1, ne-eqb _ _ (c .before .if2 .left), c .of4 .ensures) (interrupted-is _))
+    (λ c. rw (c .before .enum-told3 .given .1, c .of5 .ensures) (paused-is _))
     (λ c. rw (c .before .before .event6 .given .1) (c .disconnected .ensures))
     (λ c. rw (c .before .enum-told4 .given .1) (c .released .ensures))
     (λ c. rw (c .before .enum-told5 .given .1) (c .cut .ensures))
     (λ c. rw (c .before .before .event7 .given .1) (c .active-expiry .ensures))
-    (λ c. c .no-row .ensures ∙ no-row (c .before .before .args .call) (c .before .before .args .event) (oneOf others (c .before .before .args .event) (c .before .match .keys13))))
+    (λ c. rw (c .none .ensures) (none-is (c .before .before .args .call) ∙ no-row (c .before .before .args .call) (c .before .before .args .event) (oneOf others (c .before .before .args .event) (c .before .match .keys13)))))

@@ -1,6 +1,6 @@
 -- Whether asked, or duplex.
-use borrow.Author.Needs.{needs}
 use borrow.Author.Tests.{eq-eqb, ne-eqb}
+use Rattle.callcontrol.proofs.Settled.{}
 use Rattle.callcontrol.specs.Rows.{asks}
 use Rattle.callcontrol.proofs.rows.asks.Statement.{statement}
 use Rattle.callcontrol.proofs.rows.asks.Tie as tie

@@ -1,16 +1,16 @@
--- Each row is its verbs one after the other.
+-- Each row is the one of that name.
+use mathlib.Core.List.{List, [], _∷_}
+use mathlib.Core.Path.{_≡_, refl, _∙_}
+use lib.Dec.{T}
 use borrow.Author.Needs.{needs}
 use borrow.Author.Tests.{eq-eqb, ne-eqb}
-use mathlib.Core.Path.{_∙_}
-use mathlib.Core.Path.{_≡_, refl}
-use mathlib.Core.List.{List, [], _∷_}
 use Prim.Native.Nat.{ℕ}
-use lib.Dec.{T}
-use Rattle.records.specs.declared.events.Event.{Event}
-use Rattle.callcontrol.specs.declared.call.Call.{Call}
-use Rattle.callcontrol.specs.Draft.{noRow}
+use Rattle.callcontrol.proofs.Settled.{confirmed-is, confirmed-late-is, disconnected-unsent-is, none-is, released-unsent-is, reported-is}
 use Rattle.callcontrol.proofs.Tags.{hasTag, oneOf}
+use Rattle.callcontrol.specs.Draft.{noRow}
 use Rattle.callcontrol.specs.Rows.{callDisconnect}
+use Rattle.callcontrol.specs.declared.call.Call.{Call}
+use Rattle.records.specs.declared.events.Event.{Event}
 use Rattle.callcontrol.proofs.rows.call_disconnect.Statement.{statement}
 use Rattle.callcontrol.proofs.rows.call_disconnect.Tie as tie
 
@@ -51,39 +51,37 @@ call-disconnect-spec =
     tie.close
     (tie.spec
     (λ c. search needs)
-    (λ c κs. search needs)
-    (λ c κs. search needs)
-    (λ c. rw (c .before .before .before .before .before .event .given .1, eq-eqb _ _ (c .before .before .if1 .taken)) (cc))
-    (λ c κs. search needs)
+    (λ c. search needs)
     (λ c. search needs)
     (λ c κs. search needs)
-    (λ c κs. search needs)
-    (λ c. rw (c .before .before .before .before .enum-told .given .1, eq-eqb _ _ (c .before .before .if2 .taken)) (cc))
-    (λ c κs. search needs)
-    (λ c κs. search needs)
-    (λ c. search needs)
-    (λ c κs. search needs)
-    (λ c κs. search needs)
-    (λ c. rw (c .before .before .before .before .enum-told2 .given .1, eq-eqb _ _ (c .before .before .if3 .taken)) (cc))
-    (λ c κs. search needs)
-    (λ c. search needs)
-    (λ c κs. search needs)
-    (λ c κs. search needs)
-    (λ c. rw (c .before .before .before .before .enum-told3 .given .1, eq-eqb _ _ (c .before .before .if4 .taken)) (cc))
+    (λ c. rw (c .before .before .before .before .event .given .1, eq-eqb _ _ (c .before .if1 .taken), c .naming .ensures) (disconnected-unsent-is _ _))
     (λ c κs. search needs)
     (λ c. search needs)
     (λ c. search needs)
     (λ c κs. search needs)
+    (λ c. rw (c .before .before .before .enum-told .given .1, eq-eqb _ _ (c .before .if2 .taken), c .of .ensures) (released-unsent-is _))
+    (λ c κs. search needs)
+    (λ c. search needs)
+    (λ c. search needs)
+    (λ c κs. search needs)
+    (λ c. rw (c .before .before .before .enum-told2 .given .1, eq-eqb _ _ (c .before .if3 .taken), c .of3 .ensures) (reported-is _))
+    (λ c κs. search needs)
+    (λ c. search needs)
+    (λ c κs. search needs)
+    (λ c. rw (c .before .before .before .enum-told3 .given .1, eq-eqb _ _ (c .before .if4 .taken), c .of4 .ensures) (confirmed-is _))
+    (λ c κs. search needs)
+    (λ c. search needs)
+    (λ c. search needs)
+    (λ c. search needs)
+    (λ c κs. search needs)
+    (λ c. rw (c .before .before .before .before .before .event2 .given .1, eq-eqb _ _ (c .before .before .if5 .taken), c .before .if6 .taken, c .of5 .ensures) (confirmed-late-is _))
+    (λ c κs. search needs)
+    (λ c. rw (c .before .before .before .before .before .event2 .given .1, eq-eqb _ _ (c .before .before .if5 .taken), c .before .if6 .left, c .none3 .ensures) (none-is _))
     (λ c κs. search needs)
     (λ c κs. search needs)
-    (λ c. rw (c .before .before .before .before .before .before .before .event2 .given .1, eq-eqb _ _ (c .before .before .before .before .if5 .taken), c .before .before .before .if6 .taken) (cc))
-    (λ c κs. search needs)
-    (λ c. rw (c .before .before .before .before .before .event2 .given .1, eq-eqb _ _ (c .before .before .if5 .taken), c .before .if6 .left) (c .no-row3 .ensures))
-    (λ c κs. search needs)
-    (λ c κs. search needs)
-    (λ c. rw (c .before .before .before .before .event .given .1, ne-eqb _ _ (c .before .if1 .left)) (c .disconnected2 .ensures))
-    (λ c. rw (c .before .before .before .before .enum-told .given .1, ne-eqb _ _ (c .before .before .if2 .left)) (cc))
-    (λ c. rw (c .before .before .before .enum-told2 .given .1, ne-eqb _ _ (c .before .if3 .left)) (c .no-row .ensures))
-    (λ c. rw (c .before .before .before .enum-told3 .given .1, ne-eqb _ _ (c .before .if4 .left)) (c .no-row2 .ensures))
-    (λ c. rw (c .before .before .before .before .event2 .given .1, ne-eqb _ _ (c .before .if5 .left)) (c .no-row4 .ensures))
-    (λ c. c .no-row5 .ensures ∙ no-row (c .before .before .args .call) (c .before .before .args .event) (oneOf others (c .before .before .args .event) (c .before .match .keys6))))
+    (λ c. rw (c .before .before .before .before .event .given .1, ne-eqb _ _ (c .before .if1 .left)) (c .disconnected .ensures))
+    (λ c. rw (c .before .before .before .enum-told .given .1, ne-eqb _ _ (c .before .if2 .left), c .of2 .ensures) (confirmed-is _))
+    (λ c. rw (c .before .before .before .enum-told2 .given .1, ne-eqb _ _ (c .before .if3 .left), c .none .ensures) (none-is _))
+    (λ c. rw (c .before .before .before .enum-told3 .given .1, ne-eqb _ _ (c .before .if4 .left), c .none2 .ensures) (none-is _))
+    (λ c. rw (c .before .before .before .before .event2 .given .1, ne-eqb _ _ (c .before .if5 .left), c .none4 .ensures) (none-is _))
+    (λ c. rw (c .none5 .ensures) (none-is (c .before .before .args .call) ∙ no-row (c .before .before .args .call) (c .before .before .args .event) (oneOf others (c .before .before .args .event) (c .before .match .keys6)))))

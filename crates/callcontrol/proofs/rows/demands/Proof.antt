@@ -1,6 +1,7 @@
 -- The tests of the row, one after the other.
 use borrow.Author.Needs.{needs}
 use borrow.Author.Tests.{eq-eqb, ne-eqb}
+use Rattle.callcontrol.proofs.Settled.{demanded-is, none-is}
 use Rattle.callcontrol.specs.Rows.{demands}
 use Rattle.callcontrol.proofs.rows.demands.Statement.{statement}
 use Rattle.callcontrol.proofs.rows.demands.Tie as tie
@@ -11,14 +12,12 @@ demands-spec =
     tie.close
     (tie.spec
     (λ c κs. search needs)
-    (λ c. rw (ne-eqb _ _ (c .before .if1 .taken)) (c .no-row .ensures))
+    (λ c. rw (ne-eqb _ _ (c .before .if1 .taken), c .none .ensures) (none-is _))
+    (λ c. search needs)
     (λ c κs. search needs)
+    (λ c. rw (eq-eqb _ _ (c .before .before .before .if1 .left), eq-eqb _ _ (c .before .if2 .taken), c .asking .ensures) (demanded-is _))
+    (λ c. search needs)
     (λ c κs. search needs)
+    (λ c. rw (eq-eqb _ _ (c .before .before .before .before .before .if1 .left), ne-eqb _ _ (c .before .before .before .if2 .left), eq-eqb _ _ (c .before .if3 .taken), c .asking2 .ensures) (demanded-is _))
     (λ c κs. search needs)
-    (λ c. rw (eq-eqb _ _ (c .before .before .before .before .before .if1 .left), eq-eqb _ _ (c .before .before .before .if2 .taken)) (cc))
-    (λ c κs. search needs)
-    (λ c κs. search needs)
-    (λ c κs. search needs)
-    (λ c. rw (eq-eqb _ _ (c .before .before .before .before .before .before .before .if1 .left), ne-eqb _ _ (c .before .before .before .before .before .if2 .left), eq-eqb _ _ (c .before .before .before .if3 .taken)) (cc))
-    (λ c κs. search needs)
-    (λ c. rw (eq-eqb _ _ (c .before .before .before .before .before .if1 .left), ne-eqb _ _ (c .before .before .before .if2 .left), ne-eqb _ _ (c .before .if3 .left)) (c .no-row2 .ensures)))
+    (λ c. rw (eq-eqb _ _ (c .before .before .before .before .before .if1 .left), ne-eqb _ _ (c .before .before .before .if2 .left), ne-eqb _ _ (c .before .if3 .left), c .none2 .ensures) (none-is _)))

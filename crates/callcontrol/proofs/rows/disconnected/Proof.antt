@@ -1,18 +1,13 @@
--- The verbs one after the other.
+-- The row of that name.
 use borrow.Author.Needs.{needs}
-use Rattle.callcontrol.specs.Rows.{disconnected}
+use Rattle.callcontrol.proofs.Settled.{disconnected-is}
 use Rattle.callcontrol.proofs.rows.disconnected.Statement.{statement}
 use Rattle.callcontrol.proofs.rows.disconnected.Tie as tie
 
 pub disconnected-spec : {M : Type 1} → statement M
-unfolding disconnected
 disconnected-spec =
     tie.close
     (tie.spec
+    (λ c. search needs)
     (λ c κs. search needs)
-    (λ c κs. search needs)
-    (λ c κs. search needs)
-    (λ c κs. search needs)
-    (λ c κs. search needs)
-    (λ c κs. search needs)
-    (λ c. rw (c .over .ensures, c .before .tell .ensures, c .before .before .say .ensures, c .before .before .before .off .ensures, c .before .before .before .before .stop-all .ensures, c .before .before .before .before .before .new .ensures)))
+    (λ c. rw (c .naming .ensures) (disconnected-is _ _)))

@@ -1,15 +1,15 @@
--- Each row is its verbs one after the other.
-use borrow.Author.Needs.{needs}
-use mathlib.Core.Path.{_∙_}
-use mathlib.Core.Path.{_≡_, refl}
+-- Each row is the one of that name.
 use mathlib.Core.List.{List, [], _∷_}
-use Prim.Native.Nat.{ℕ}
+use mathlib.Core.Path.{_≡_, refl, _∙_}
 use lib.Dec.{T}
-use Rattle.records.specs.declared.events.Event.{Event}
-use Rattle.callcontrol.specs.declared.call.Call.{Call}
-use Rattle.callcontrol.specs.Draft.{noRow}
+use borrow.Author.Needs.{needs}
+use Prim.Native.Nat.{ℕ}
+use Rattle.callcontrol.proofs.Settled.{d-setup-is, none-is, setup-request-is}
 use Rattle.callcontrol.proofs.Tags.{hasTag, oneOf}
+use Rattle.callcontrol.specs.Draft.{noRow}
 use Rattle.callcontrol.specs.Rows.{idle}
+use Rattle.callcontrol.specs.declared.call.Call.{Call}
+use Rattle.records.specs.declared.events.Event.{Event}
 use Rattle.callcontrol.proofs.rows.idle.Statement.{statement}
 use Rattle.callcontrol.proofs.rows.idle.Tie as tie
 
@@ -50,21 +50,11 @@ idle-spec =
     tie.close
     (tie.spec
     (λ c. search needs)
-    (λ c κs. search needs)
-    (λ c κs. search needs)
-    (λ c κs. search needs)
-    (λ c κs. search needs)
-    (λ c κs. search needs)
-    (λ c κs. search needs)
-    (λ c κs. search needs)
+    (λ c. search needs)
+    (λ c. search needs)
+    (λ c. search needs)
     (λ c. search needs)
     (λ c κs. search needs)
-    (λ c κs. search needs)
-    (λ c κs. search needs)
-    (λ c κs. search needs)
-    (λ c κs. search needs)
-    (λ c κs. search needs)
-    (λ c κs. search needs)
-    (λ c. rw (c .before .before .before .before .before .before .before .before .event .given .1) (cc))
-    (λ c. rw (c .before .before .before .before .before .before .before .event2 .given .1) (cc))
-    (λ c. c .no-row .ensures ∙ no-row (c .before .before .args .call) (c .before .before .args .event) (oneOf others (c .before .before .args .event) (c .before .match .keys3))))
+    (λ c. rw (c .before .event .given .1) (setup-request-is _ _ _ _))
+    (λ c. rw (c .before .event2 .given .1) (d-setup-is _ _ _ _))
+    (λ c. rw (c .none .ensures) (none-is (c .before .before .args .call) ∙ no-row (c .before .before .args .call) (c .before .before .args .event) (oneOf others (c .before .before .args .event) (c .before .match .keys3)))))

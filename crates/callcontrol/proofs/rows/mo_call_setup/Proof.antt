@@ -1,16 +1,16 @@
--- Each row is its verbs one after the other.
+-- Each row is the one of that name.
+use mathlib.Core.List.{List, [], _∷_}
+use mathlib.Core.Path.{_≡_, refl, _∙_}
+use lib.Dec.{T}
 use borrow.Author.Needs.{needs}
 use borrow.Author.Tests.{eq-eqb, ne-eqb}
-use mathlib.Core.Path.{_∙_}
-use mathlib.Core.Path.{_≡_, refl}
-use mathlib.Core.List.{List, [], _∷_}
 use Prim.Native.Nat.{ℕ}
-use lib.Dec.{T}
-use Rattle.records.specs.declared.events.Event.{Event}
-use Rattle.callcontrol.specs.declared.call.Call.{Call}
-use Rattle.callcontrol.specs.Draft.{noRow}
+use Rattle.callcontrol.proofs.Settled.{alert-is, cancelled-is, connected-is, failed-is, none-is, proceeding-is, reported-is}
 use Rattle.callcontrol.proofs.Tags.{hasTag, oneOf}
+use Rattle.callcontrol.specs.Draft.{noRow}
 use Rattle.callcontrol.specs.Rows.{moCallSetup}
+use Rattle.callcontrol.specs.declared.call.Call.{Call}
+use Rattle.records.specs.declared.events.Event.{Event}
 use Rattle.callcontrol.proofs.rows.mo_call_setup.Statement.{statement}
 use Rattle.callcontrol.proofs.rows.mo_call_setup.Tie as tie
 
@@ -51,38 +51,30 @@ mo-call-setup-spec =
     tie.close
     (tie.spec
     (λ c. search needs)
-    (λ c κs. search needs)
-    (λ c κs. search needs)
-    (λ c κs. search needs)
-    (λ c κs. search needs)
-    (λ c κs. search needs)
-    (λ c. rw (c .before .before .before .before .before .before .before .enum-told .given .1, eq-eqb _ _ (c .before .before .before .before .before .if1 .taken)) (cc))
-    (λ c κs. search needs)
+    (λ c. search needs)
+    (λ c. search needs)
     (λ c. search needs)
     (λ c κs. search needs)
-    (λ c κs. search needs)
-    (λ c κs. search needs)
-    (λ c κs. search needs)
-    (λ c κs. search needs)
+    (λ c. rw (c .before .before .before .enum-told .given .1, c .of .ensures) (cancelled-is _ (eq-eqb _ _ (c .before .if1 .taken))))
     (λ c κs. search needs)
     (λ c. search needs)
-    (λ c κs. search needs)
-    (λ c κs. search needs)
-    (λ c κs. search needs)
-    (λ c κs. search needs)
-    (λ c κs. search needs)
-    (λ c κs. search needs)
+    (λ c. search needs)
+    (λ c. search needs)
+    (λ c. search needs)
     (λ c. search needs)
     (λ c κs. search needs)
+    (λ c. search needs)
+    (λ c. search needs)
+    (λ c. search needs)
+    (λ c. search needs)
+    (λ c. search needs)
     (λ c κs. search needs)
-    (λ c κs. search needs)
-    (λ c κs. search needs)
-    (λ c κs. search needs)
-    (λ c κs. search needs)
-    (λ c κs. search needs)
-    (λ c κs. search needs)
-    (λ c κs. search needs)
-    (λ c κs. search needs)
+    (λ c. search needs)
+    (λ c. search needs)
+    (λ c. search needs)
+    (λ c. search needs)
+    (λ c. search needs)
+    (λ c. search needs)
     (λ c κs. search needs)
     (λ c. search needs)
     (λ c κs. search needs)
@@ -90,26 +82,27 @@ mo-call-setup-spec =
     (λ c κs. search needs)
     (λ c. search needs)
     (λ c κs. search needs)
-    (λ c κs. search needs)
-    (λ c. rw (c .before .before .before .before .enum-told3 .given .1, eq-eqb _ _ (c .before .before .if2 .taken)) (cc))
-    (λ c κs. search needs)
+    (λ c. search needs)
     (λ c. search needs)
     (λ c κs. search needs)
+    (λ c. rw (c .before .before .before .enum-told3 .given .1, eq-eqb _ _ (c .before .if2 .taken), c .of2 .ensures) (reported-is _))
     (λ c κs. search needs)
+    (λ c. search needs)
+    (λ c. search needs)
+    (λ c. search needs)
     (λ c κs. search needs)
-    (λ c κs. search needs)
-    (λ c. rw (c .before .before .before .before .before .before .enum-told4 .given .1, eq-eqb _ _ (c .before .before .before .before .if3 .taken)) (cc))
+    (λ c. rw (c .before .before .before .enum-told4 .given .1, c .of3 .ensures) (failed-is _ (eq-eqb _ _ (c .before .if3 .taken))))
     (λ c κs. search needs)
     (λ c. search needs)
     (λ c κs. search needs)
     (λ c κs. search needs)
     (λ c. rw (c .before .before .before .enum-told .given .1, ne-eqb _ _ (c .before .if1 .left)) (c .releasing .ensures))
-    (λ c. rw (c .before .before .before .before .before .before .before .event .given .1, c .tell2 .ensures, c .before .start .ensures, c .before .before .stop2 .ensures, c .before .before .before .store-sent .ensures, c .before .before .before .before .store-id .ensures, c .before .before .before .before .before .new2 .ensures))
-    (λ c. rw (c .before .before .before .before .before .before .before .event2 .given .1, c .tell3 .ensures, c .before .start2 .ensures, c .before .before .stop3 .ensures, c .before .before .before .store-sent2 .ensures, c .before .before .before .before .store-id2 .ensures, c .before .before .before .before .before .new3 .ensures))
-    (λ c. rw (c .before .before .before .before .before .before .before .before .before .before .before .before .event3 .given .1, c .tell4 .ensures, c .before .grant-or-off .ensures, c .before .before .start3 .ensures, c .before .before .before .stop5 .ensures, c .before .before .before .before .stop4 .ensures, c .before .before .before .before .before .go .ensures, c .before .before .before .before .before .before .store-sent3 .ensures, c .before .before .before .before .before .before .before .store-code .ensures, c .before .before .before .before .before .before .before .before .store-mode .ensures, c .before .before .before .before .before .before .before .before .before .store-id3 .ensures, c .before .before .before .before .before .before .before .before .before .before .new4 .ensures))
+    (λ c. rw (c .before .before .event .given .1, c .naming .ensures) (proceeding-is _ _))
+    (λ c. rw (c .before .before .event2 .given .1, c .naming2 .ensures) (alert-is _ _))
+    (λ c. rw (c .before .before .before .event3 .given .1, c .asked-after .ensures, c .before .plane-or-off .ensures .0) (connected-is _ _ _ _ _))
     (λ c. rw (c .before .before .event4 .given .1) (c .disconnected .ensures))
     (λ c. rw (c .before .enum-told2 .given .1) (c .released .ensures))
-    (λ c. rw (c .before .before .before .enum-told3 .given .1, ne-eqb _ _ (c .before .if2 .left)) (c .no-row .ensures))
-    (λ c. rw (c .before .before .before .enum-told4 .given .1, ne-eqb _ _ (c .before .if3 .left)) (c .no-row2 .ensures))
+    (λ c. rw (c .before .before .before .enum-told3 .given .1, ne-eqb _ _ (c .before .if2 .left), c .none .ensures) (none-is _))
+    (λ c. rw (c .before .before .before .enum-told4 .given .1, ne-eqb _ _ (c .before .if3 .left), c .none2 .ensures) (none-is _))
     (λ c. rw (c .before .before .event5 .given .1) (c .expiry .ensures))
-    (λ c. c .no-row3 .ensures ∙ no-row (c .before .before .args .call) (c .before .before .args .event) (oneOf others (c .before .before .args .event) (c .before .match .keys10))))
+    (λ c. rw (c .none3 .ensures) (none-is (c .before .before .args .call) ∙ no-row (c .before .before .args .call) (c .before .before .args .event) (oneOf others (c .before .before .args .event) (c .before .match .keys10)))))

@@ -1,15 +1,15 @@
--- Each row is its verbs one after the other.
-use borrow.Author.Needs.{needs}
-use mathlib.Core.Path.{_∙_}
-use mathlib.Core.Path.{_≡_, refl}
+-- Each row is the one of that name.
 use mathlib.Core.List.{List, [], _∷_}
-use Prim.Native.Nat.{ℕ}
+use mathlib.Core.Path.{_≡_, refl, _∙_}
 use lib.Dec.{T}
-use Rattle.records.specs.declared.events.Event.{Event}
-use Rattle.callcontrol.specs.declared.call.Call.{Call}
-use Rattle.callcontrol.specs.Draft.{noRow}
+use borrow.Author.Needs.{needs}
+use Prim.Native.Nat.{ℕ}
+use Rattle.callcontrol.proofs.Settled.{acknowledged-is, none-is, responded-is}
 use Rattle.callcontrol.proofs.Tags.{hasTag, oneOf}
+use Rattle.callcontrol.specs.Draft.{noRow}
 use Rattle.callcontrol.specs.Rows.{mtCallSetup}
+use Rattle.callcontrol.specs.declared.call.Call.{Call}
+use Rattle.records.specs.declared.events.Event.{Event}
 use Rattle.callcontrol.proofs.rows.mt_call_setup.Statement.{statement}
 use Rattle.callcontrol.proofs.rows.mt_call_setup.Tie as tie
 
@@ -52,22 +52,21 @@ mt-call-setup-spec =
     (λ c. search needs)
     (λ c. search needs)
     (λ c κs. search needs)
-    (λ c. rw (c .before .before .enum-told .given .1, c .before .if1 .taken) (c .no-row .ensures))
-    (λ c κs. search needs)
-    (λ c κs. search needs)
+    (λ c. rw (c .before .before .enum-told .given .1, c .before .if1 .taken, c .none .ensures) (none-is _))
+    (λ c. search needs)
+    (λ c. search needs)
     (λ c κs. search needs)
     (λ c. search needs)
     (λ c κs. search needs)
     (λ c. search needs)
     (λ c. search needs)
+    (λ c. search needs)
+    (λ c. search needs)
+    (λ c. search needs)
     (λ c κs. search needs)
+    (λ c. search needs)
     (λ c κs. search needs)
-    (λ c κs. search needs)
-    (λ c κs. search needs)
-    (λ c κs. search needs)
-    (λ c κs. search needs)
-    (λ c κs. search needs)
-    (λ c. rw (c .before .before .before .before .before .before .before .before .before .event .given .1, c .before .before .before .before .before .before .before .if2 .taken) (cc))
+    (λ c. rw (c .before .before .before .before .event .given .1, c .before .before .if2 .taken, c .asked-after .ensures, c .before .plane-or-off .ensures .0) (acknowledged-is _ _ _))
     (λ c κs. search needs)
     (λ c. search needs)
     (λ c κs. search needs)
@@ -76,10 +75,10 @@ mt-call-setup-spec =
     (λ c. search needs)
     (λ c κs. search needs)
     (λ c κs. search needs)
-    (λ c. rw (c .before .before .before .before .enum-told .given .1, c .before .before .before .if1 .left) (cc))
+    (λ c. rw (c .before .before .enum-told .given .1, c .of .ensures) (responded-is _ (c .before .if1 .left)))
     (λ c. rw (c .before .enum-told2 .given .1) (c .releasing .ensures))
-    (λ c. rw (c .before .before .before .event .given .1, c .before .if2 .left) (c .no-row2 .ensures))
+    (λ c. rw (c .before .before .before .event .given .1, c .before .if2 .left, c .none2 .ensures) (none-is _))
     (λ c. rw (c .before .before .event2 .given .1) (c .disconnected .ensures))
     (λ c. rw (c .before .enum-told3 .given .1) (c .released .ensures))
     (λ c. rw (c .before .before .event3 .given .1) (c .expiry .ensures))
-    (λ c. c .no-row3 .ensures ∙ no-row (c .before .before .before .args .call) (c .before .before .before .args .event) (oneOf others (c .before .before .before .args .event) (c .before .match .keys7))))
+    (λ c. rw (c .none3 .ensures) (none-is (c .before .before .before .args .call) ∙ no-row (c .before .before .before .args .call) (c .before .before .before .args .event) (oneOf others (c .before .before .before .args .event) (c .before .match .keys7)))))

@@ -1,17 +1,12 @@
--- The verbs one after the other.
+-- The row of that name.
 use borrow.Author.Needs.{needs}
-use Rattle.callcontrol.specs.Rows.{released}
+use Rattle.callcontrol.proofs.Settled.{released-is}
 use Rattle.callcontrol.proofs.rows.released.Statement.{statement}
 use Rattle.callcontrol.proofs.rows.released.Tie as tie
 
 pub released-spec : {M : Type 1} → statement M
-unfolding released
 released-spec =
     tie.close
     (tie.spec
     (λ c κs. search needs)
-    (λ c κs. search needs)
-    (λ c κs. search needs)
-    (λ c κs. search needs)
-    (λ c κs. search needs)
-    (λ c. cc))
+    (λ c. rw (c .of .ensures) (released-is _)))

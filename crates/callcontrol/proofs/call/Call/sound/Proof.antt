@@ -1,5 +1,6 @@
--- The definition is what the code tests.
+-- The four tests, each where those before it hold.
 use borrow.Author.Needs.{needs}
+use borrow.Author.Tests.{not-true, not-false}
 use Rattle.callcontrol.specs.Call.{sound}
 use Rattle.callcontrol.proofs.call.Call.sound.Statement.{statement}
 use Rattle.callcontrol.proofs.call.Call.sound.Tie as tie
@@ -10,8 +11,10 @@ sound-spec =
     tie.close
     (tie.spec
     (λ c κs. search needs)
+    (λ c. rw (← c .before .in-range .ensures, not-true (c .before .in-range .result) (c .if1 .taken)))
     (λ c κs. search needs)
+    (λ c. rw (← c .before .before .before .in-range .ensures, not-false (c .before .before .before .in-range .result) (c .before .before .if1 .left), ← c .before .idle-is-fresh .ensures, not-true (c .before .idle-is-fresh .result) (c .if2 .taken)))
     (λ c κs. search needs)
+    (λ c. rw (← c .before .before .before .before .before .in-range .ensures, not-false (c .before .before .before .before .before .in-range .result) (c .before .before .before .before .if1 .left), ← c .before .before .before .idle-is-fresh .ensures, not-false (c .before .before .before .idle-is-fresh .result) (c .before .before .if2 .left), ← c .before .timers-agree .ensures, not-true (c .before .timers-agree .result) (c .if3 .taken)))
     (λ c κs. search needs)
-    (λ c κs. search needs)
-    (λ c. rw (c .places-agree .ensures, c .before .timers-agree .ensures, c .before .before .as-fresh .ensures, c .before .before .before .is-idle .ensures, c .before .before .before .before .in-range .ensures)))
+    (λ c. rw (← c .before .before .before .before .before .before .in-range .ensures, not-false (c .before .before .before .before .before .before .in-range .result) (c .before .before .before .before .before .if1 .left), ← c .before .before .before .before .idle-is-fresh .ensures, not-false (c .before .before .before .before .idle-is-fresh .result) (c .before .before .before .if2 .left), ← c .before .before .timers-agree .ensures, not-false (c .before .before .timers-agree .result) (c .before .if3 .left)) (c .places-agree .ensures)))

@@ -1,0 +1,16 @@
+-- The present plane, the kept one, or the one ordered.
+use borrow.Author.Needs.{needs}
+use borrow.Author.Tests.{eq-eqb, ne-eqb}
+use Rattle.callcontrol.specs.Settle.{toldBy}
+use Rattle.callcontrol.proofs.settle.told_by.Statement.{statement}
+use Rattle.callcontrol.proofs.settle.told_by.Tie as tie
+
+pub told-by-spec : {M : Type 1} → statement M
+unfolding toldBy
+told-by-spec =
+    tie.close
+    (tie.spec
+    (λ c. rw (eq-eqb _ _ (c .if1 .taken)))
+    (λ c. rw (ne-eqb _ _ (c .before .if1 .left), eq-eqb _ _ (c .if2 .taken)))
+    (λ c. search needs)
+    (λ c. rw (ne-eqb _ _ (c .before .if1 .left), ne-eqb _ _ (c .if2 .left))))
