@@ -10,3 +10,4 @@ pub mod library;
 pub mod programs;
 pub mod request;
 pub mod sidebyside;
+pub mod tape;

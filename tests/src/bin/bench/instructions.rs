@@ -1,6 +1,6 @@
 //! How many instructions one step takes: the emulator is asked to log each, and the lines are counted.
 
-use crate::tape::{tape, OUT_LEN};
+use callcontrol_tests::tape::{tape, OUT_LEN};
 use callcontrol_tests::account::{boundary, Call};
 use callcontrol_tests::{programs, request::Request};
 use std::io::{BufRead, BufReader, Write};

@@ -5,7 +5,6 @@
 mod instructions;
 #[cfg(not(bridged))]
 mod measure;
-mod tape;
 
 fn main() {
     #[cfg(not(bridged))]

@@ -1,7 +1,7 @@
-//! The events that are measured.
+//! The events that the library is measured on.
 
-use callcontrol_tests::account::Call;
-use callcontrol_tests::generate::{damaged_event, event, likely_event, Bytes, Random};
+use crate::account::Call;
+use crate::generate::{damaged_event, event, likely_event, Bytes, Random};
 
 pub const EVENTS: usize = 16_384;
 pub const OUT_LEN: usize = 64;
