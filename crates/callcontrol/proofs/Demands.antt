@@ -18,6 +18,7 @@ use Rattle.callcontrol.proofs.Sound as Sound
 use Rattle.callcontrol.proofs.Told as Told
 use Rattle.callcontrol.proofs.Ended as Ended
 use Rattle.callcontrol.proofs.Cut as Cut
+use Rattle.callcontrol.proofs.WrittenInRange as WrittenInRange
 
 -- ---- demand 1
 
@@ -79,6 +80,9 @@ zero-is-taken = Answers.zero-is-taken
 
 pub taken-gives : claims.Taken
 taken-gives = Answers.taken-gives
+
+pub written-in-range : claims.WrittenInRange
+written-in-range = WrittenInRange.written-in-range
 
 -- ---- demand 3
 

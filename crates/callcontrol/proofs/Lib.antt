@@ -19,4 +19,5 @@ pub mod Told
 pub mod Turns
 pub mod Verbs
 pub mod Witness
+pub mod WrittenInRange
 pub mod WrongSteps

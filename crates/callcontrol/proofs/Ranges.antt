@@ -21,7 +21,7 @@ Range (word Word.I) v = (1 ≤ v) × (v ≤ 16383)
 Range (word Word.I0) v = v ≤ 16383
 Range (word Word.N) v = Unit {0}
 Range (long Long.A) v = v ≤ 16777215
-Range (long Long.A1) v = v ≤ 16777215
+Range (long Long.A1) v = (1 ≤ v) × (v ≤ 16777215)
 
 abbrev pub Ranges : (ls : List Letter) → Values ls → Type 0
 Ranges [] vs = Unit {0}
@@ -44,7 +44,7 @@ in-range (word Word.I) v h = between 1 16383 v h
 in-range (word Word.I0) v h = between 0 16383 v h .1
 in-range (word Word.N) v h = tt
 in-range (long Long.A) v h = between 0 16777215 v h .1
-in-range (long Long.A1) v h = between 1 16777215 v h .1
+in-range (long Long.A1) v h = between 1 16777215 v h
 
 in-ranges : (ls : List Letter) (vs : Values ls) → allFit ls vs ≡ true → Ranges ls vs
 unfolding allFit
@@ -57,7 +57,7 @@ carries e h = in-ranges _ _ (both _ _ h .0)
 
 -- a property of every event, by what each carries
 pub by-event : (P : Event → Type 0)
-    → ((a d q : ℕ) → a ≤ 16777215 → d ≤ 1 → q ≤ 1 → P (SetupRequest a d q))
+    → ((a d q : ℕ) → 1 ≤ a → a ≤ 16777215 → d ≤ 1 → q ≤ 1 → P (SetupRequest a d q))
     → P SetupResponse
     → P ReleaseRequest
     → ((k : ℕ) → k ≤ 1 → P (TxRequest k))
@@ -84,7 +84,7 @@ pub by-event : (P : Event → Type 0)
     → (e : Event) → Carries e → P e
 by-event P p₁ p₂ p₃ p₄ p₅ p₆ p₇ p₈ p₉ p₁₀ p₁₁ p₁₂ p₁₃ p₁₄ p₁₅ p₁₆ p₁₇ p₁₈ p₁₉ p₂₀ p₂₁ p₂₂ p₂₃ p₂₄ =
     elim [
-      | SetupRequest a d q ↦ λ h. p₁ a d q (h .0) (h .1 .0) (h .1 .1 .0)
+      | SetupRequest a d q ↦ λ h. p₁ a d q (h .0 .0) (h .0 .1) (h .1 .0) (h .1 .1 .0)
       | SetupResponse ↦ λ h. p₂
       | ReleaseRequest ↦ λ h. p₃
       | TxRequest k ↦ λ h. p₄ k (h .0)

@@ -11,6 +11,7 @@ use Rattle.records.specs.declared.events.Event.{Event}
 use Rattle.records.specs.declared.events.Event.the-variants.{SetupRequest, SetupResponse, ReleaseRequest, TxRequest, ModifyRequest, DCallProceeding, DAlert, DConnect, DConnectAcknowledge, DSetup, DInfo, DTxGranted, DTxCeased, DTxInterrupt, DTxWait, DTxContinue, DCallRestore, DDisconnect, DRelease, ReportSent, ReportFailed, Break, Resume, Expiry}
 use Rattle.records.specs.Tables.{Read, taken, refused, read, fine}
 use Rattle.records.specs.Events.{events}
+use Rattle.records.specs.Messages.{messages}
 use Rattle.callcontrol.specs.declared.call.State.{State}
 use Rattle.callcontrol.specs.declared.call.Path.{Path}
 use Rattle.callcontrol.specs.declared.call.Call.{Call}
@@ -18,7 +19,7 @@ use Rattle.callcontrol.specs.Call.{freshCall, sound, runs, isIdle, T310}
 use Rattle.callcontrol.specs.Rows.{rowFor}
 use Rattle.callcontrol.specs.Orders.{orders, bytesOf}
 use Rattle.callcontrol.specs.Step.{Outcome, refusal, stepOf, otherCall}
-use Rattle.callcontrol.specs.Runs.{Turn, outcome, next, run, takenBy, takenIn, writtenBy, told, ends}
+use Rattle.callcontrol.specs.Runs.{Turn, outcome, next, run, takenBy, takenIn, writtenBy, writtenIn, every?, told, ends}
 use Rattle.callcontrol.specs.History.{planeByHistory}
 
 -- Demand 1: every turn gets an answer; the lowest number that applies; a refusal writes no byte and gives the record back
@@ -101,6 +102,10 @@ Taken =
     × (next c t ≡ rowFor c e .call)
     × (outcome c t .count ≡ length (bytesOf (writtenBy c t)))
     × (outcome c t .buffer ≡ sets (t .buffer) 0 (bytesOf (writtenBy c t)))
+
+-- every message that a run writes is in range, and so one that the reader of messages takes (records, Laws)
+abbrev pub WrittenInRange : Type 0
+WrittenInRange = (ts : List Turn) → every? (λ m. fine messages m) (writtenIn freshCall ts) ≡ true
 
 -- Demand 3, told: what the lower layers were last told is what the history rule reads from the taken events alone, and is the plane of the record
 

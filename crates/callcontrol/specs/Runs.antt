@@ -122,6 +122,10 @@ abbrev pub some? : (Message → Bool) → List Message → Bool
 some? p [] = false
 some? p (m ∷ ms) = p m || some? p ms
 
+abbrev pub every? : (Message → Bool) → List Message → Bool
+every? p [] = true
+every? p (m ∷ ms) = p m && every? p ms
+
 -- a turn in which the call ends
 unfoldable pub ends : Call → Turn → Bool
 ends c t = some? endsCall (writtenBy c t)
