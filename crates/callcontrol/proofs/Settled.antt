@@ -13,10 +13,9 @@ use Rattle.callcontrol.specs.declared.call.Call.{Call}
 use Rattle.callcontrol.specs.declared.call.State.{State}
 use Rattle.callcontrol.specs.declared.call.Path.{Path}
 use Rattle.callcontrol.specs.declared.draft.Draft.{Draft}
-use Rattle.callcontrol.specs.declared.row.Row.{Row}
 use Rattle.callcontrol.specs.Call.{runs, T301, T302, T303, T306, T308, T310, T311}
-use Rattle.callcontrol.specs.Draft.{_▷_, draft, noRow, go, onPath, storeId, storeAddress, storeMode, storeAsked, storeSent, storeCode, keep, stop, start, expired, release, samePlane, plane, off, say, tell, grant, grantOrOff, restart, cancel}
-use Rattle.callcontrol.specs.Rows.{releasing, released, disconnected, timedOut, expiry, idle, moCallSetup, mtCallSetup, demands, ceases, informed, cut, activeExpiry, activeUp, asks, activeBroken, activeRestoring, wait, confirmed, callDisconnect}
+use Rattle.callcontrol.specs.Draft.{_▷_, draft, noRow, go, onPath, storeId, storeMode, storeAsked, storeSent, storeCode, keep, stop, start, expired, release, samePlane, plane, off, say, tell, grant, grantOrOff, restart, cancel}
+use Rattle.callcontrol.specs.Rows.{releasing, released, disconnected, idle, moCallSetup, mtCallSetup, informed, cut, activeUp, asks, activeBroken, activeRestoring, wait, confirmed}
 use Rattle.callcontrol.specs.Settle.{STAY, MO-CALL-SETUP, MT-CALL-SETUP, CALL-ACTIVE, WAIT, CALL-DISCONNECT, OVER, UP, BROKEN, RESTORING, SENT, PLANE-1, PLANE-2, PLANE-3, OFF, SAME-PLANE, KEPT-PLANE, U-SETUP, U-CONNECT, U-RELEASE, U-INFO, U-TX-DEMAND, U-TX-CEASED, U-CALL-RESTORE, SETUP-INDICATION, SETUP-CONFIRM, PROCEED, ALERT, COMPLETE, RELEASE-INDICATION, RELEASE-CONFIRM, TX-INDICATION, MODIFY-INDICATION, CANCEL, STOP-301, STOP-302, STOP-303, STOP-306, START-301, START-302, START-303, START-306, START-310, EXPIRED-301, EXPIRED-302, EXPIRED-303, EXPIRED-306, EXPIRED-308, EXPIRED-310, EXPIRED-311, ENDED, CONFIRMED, RELEASE, has, timing, expireTimer, stopTimer, startTimer, stopIf, startIf, expiredBy, orderedBy, planeTimer, timingBy, toldBy, planeBy, stateBy, keptBy, pathBy, sentBy, nextBy, pduBy, userBy, settled, drawn, noneRow, rowOf, rowAsking, rowNaming, planeGranted, planeOrOff, askedAfter, restarting, codeAfter}
 use Rattle.callcontrol.proofs.Verbs.{verbs}
 

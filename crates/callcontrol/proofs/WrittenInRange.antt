@@ -7,7 +7,7 @@ use mathlib.Core.Option.{Option}
 use mathlib.Core.Path.{_≡_, refl}
 use native.Mathlib.Omega.{arith}
 use borrow.Author.Tests.{eqb-false, le-leb}
-use lib.Dec.{eqb, leb, lit≤}
+use lib.Dec.{eqb, lit≤}
 use lib.ListN.{getD}
 use Rattle.records.specs.declared.events.Event.{Event}
 use Rattle.records.specs.declared.events.Event.the-variants.{SetupRequest, SetupResponse, ReleaseRequest, TxRequest, ModifyRequest, DCallProceeding, DAlert, DConnect, DConnectAcknowledge, DSetup, DInfo, DTxGranted, DTxCeased, DTxInterrupt, DTxWait, DTxContinue, DCallRestore, DDisconnect, DRelease, ReportSent, ReportFailed, Break, Resume, Expiry}
@@ -22,14 +22,14 @@ use Rattle.callcontrol.specs.declared.call.Path.{Path}
 use Rattle.callcontrol.specs.declared.call.Call.{Call}
 use Rattle.callcontrol.specs.declared.draft.Slot.{Slot}
 use Rattle.callcontrol.specs.declared.draft.Draft.{Draft}
-use Rattle.callcontrol.specs.Draft.{_▷_, draft, noRow, go, onPath, storeId, storeAddress, storeMode, storeAsked, storeSent, storeCode, keep, stop, stopAll, start, expired, restart, samePlane, plane, off, grant, grantOrOff, cancel, say, tell, over, release}
+use Rattle.callcontrol.specs.Draft.{draft, noRow, go, onPath, storeId, storeAddress, storeMode, storeAsked, storeSent, storeCode, keep, stop, stopAll, start, expired, restart, samePlane, plane, off, grant, grantOrOff, cancel, say, tell, over, release}
 use Rattle.callcontrol.specs.Rows
 use Rattle.callcontrol.specs.Call.{freshCall, T301, T302, T303, T306, T308, T310, T311}
 use Rattle.callcontrol.specs.Orders.{when, held, byNumber, starting, orders}
 use Rattle.callcontrol.specs.Runs.{Turn, outcome, next, eventIn, takenBy, messagesOf, writtenBy, writtenIn, every?}
 use Rattle.callcontrol.specs.Demands.{Kept, WrittenInRange}
 use Rattle.callcontrol.proofs.Reading.{read-fine}
-use Rattle.callcontrol.proofs.Situations.{Numbers, Plane, transmit, receive, duplex, At, idle, mo, mt, up, broken, restoring, wait, disconnect, Situation, at, situated}
+use Rattle.callcontrol.proofs.Situations.{Plane, transmit, receive, duplex, At, idle, mo, mt, up, broken, restoring, wait, disconnect, Situation, at, situated}
 use Rattle.callcontrol.proofs.Sound.{fresh-is-sound, step-keeps-sound}
 use Rattle.callcontrol.proofs.Ranges.{Carries, carries, by-event}
 

@@ -18,7 +18,7 @@ use Rattle.callcontrol.specs.declared.call.Call.{Call}
 use Rattle.callcontrol.specs.Call.{freshCall, sound, runs, isIdle, T310}
 use Rattle.callcontrol.specs.Rows.{rowFor}
 use Rattle.callcontrol.specs.Orders.{orders, bytesOf}
-use Rattle.callcontrol.specs.Step.{Outcome, refusal, stepOf, otherCall}
+use Rattle.callcontrol.specs.Step.{refusal, stepOf, otherCall}
 use Rattle.callcontrol.specs.Runs.{Turn, outcome, next, run, takenBy, takenIn, writtenBy, writtenIn, every?, told, ends}
 use Rattle.callcontrol.specs.History.{planeByHistory}
 

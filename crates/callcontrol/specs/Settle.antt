@@ -1,7 +1,7 @@
 -- What a row's number orders: a row of the code is a sum of orders and the values that it stores, and this is the draft that it stands
 -- for. The contract is in Rows; here is only how the code says it.
 use Prim.Native.Nat.{ℕ, _+_, _/_, _%_}
-use mathlib.Core.Bool.{Bool, true, false, cond, not, _&&_, _||_}
+use mathlib.Core.Bool.{Bool, true, false, cond, _||_}
 use mathlib.Core.List.{List}
 use lib.Dec.{eqb}
 use lib.ListN.{getD, set}

@@ -1,9 +1,7 @@
 // What one step writes: the draft's messages in the paper's order.
 ghost use mathlib.Core.Path.{_≡_};
 ghost use mathlib.Core.Bool.{cond};
-ghost use mathlib.Core.List.{List, [], _∷_, _++_};
-ghost use Prim.Native.Nat.{ℕ, _≤_};
-ghost use lib.Dec.{eqb};
+ghost use Prim.Native.Nat.{_≤_};
 ghost use lib.ListN.{length};
 ghost use Rattle.records.specs.declared.messages.Message.{Message};
 ghost use Rattle.callcontrol.specs.Orders.{when, held, byNumber, starting, orders, bytesOf, Laid, countOf};

@@ -5,7 +5,7 @@ ghost use mathlib.Core.Bool.{cond, _||_};
 ghost use Prim.Native.Nat.{_+_, _≤_};
 ghost use lib.Dec.{eqb};
 ghost use Rattle.callcontrol.specs.Rows.{releasing, released, disconnected, expiry, idle, moCallSetup, mtCallSetup, demands, ceases, informed, cut, activeExpiry, activeUp, asks, activeBroken, activeRestoring, wait, callDisconnect, active, inState, rowFor};
-ghost use Rattle.callcontrol.specs.Settle.{drawn, noneRow, rowOf, rowAsking, rowNaming, RELEASE, RELEASE-INDICATION, planeGranted, planeOrOff, askedAfter, restarting, codeAfter};
+ghost use Rattle.callcontrol.specs.Settle.{drawn, noneRow, rowAsking, RELEASE, RELEASE-INDICATION, planeGranted, planeOrOff, askedAfter, restarting, codeAfter};
 use crate::call::Call;
 use crate::call::Path;
 use crate::call::State;

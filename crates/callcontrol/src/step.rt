@@ -2,7 +2,6 @@
 ghost use mathlib.Core.Path.{_≡_};
 ghost use Rattle.callcontrol.specs.Step.{namedIn, differs, otherCall, carried, decided, stepOf, asOutcome, unreadAs};
 use crate::call::Call;
-use crate::call::State;
 use crate::draft::Draft;
 use crate::orders::lay_orders;
 use crate::orders::orders_size;

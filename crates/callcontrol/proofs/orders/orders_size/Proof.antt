@@ -1,6 +1,6 @@
 -- The parts, one after the other.
 use borrow.Author.Needs.{needs}
-use mathlib.Core.Path.{sym, _∙_}
+use mathlib.Core.Path.{sym}
 use Rattle.callcontrol.proofs.Laying.{size-orders}
 use Rattle.callcontrol.proofs.orders.orders_size.Statement.{statement}
 use Rattle.callcontrol.proofs.orders.orders_size.Tie as tie

@@ -1,6 +1,6 @@
 -- The mode of before, or another.
 use borrow.Author.Needs.{needs}
-use borrow.Author.Tests.{eq-eqb, ne-eqb}
+use borrow.Author.Tests.{ne-eqb}
 use Rattle.callcontrol.proofs.Settled.{informed-other-is, informed-same-is}
 use Rattle.callcontrol.proofs.rows.informed.Statement.{statement}
 use Rattle.callcontrol.proofs.rows.informed.Tie as tie
