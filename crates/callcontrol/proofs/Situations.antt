@@ -76,7 +76,7 @@ here c v = at v
 
 -- ---- a situation is sound: each part of the test is in the situation's facts
 
-and : (a b : Bool) → a ≡ true → b ≡ true → (a && b) ≡ true
+pub and : (a b : Bool) → a ≡ true → b ≡ true → (a && b) ≡ true
 and true b p q = q
 and false b p q = p
 
@@ -110,11 +110,11 @@ kept (disconnect n) = record { size = refl; meets = search meeting depth 8 }
 
 -- ---- a sound record is in a situation: the test is taken apart, and what it fixes is put in
 
-and-l : (a b : Bool) → (a && b) ≡ true → a ≡ true
+pub and-l : (a b : Bool) → (a && b) ≡ true → a ≡ true
 and-l true b h = refl
 and-l false b h = h
 
-and-r : (a b : Bool) → (a && b) ≡ true → b ≡ true
+pub and-r : (a b : Bool) → (a && b) ≡ true → b ≡ true
 and-r true b h = h
 and-r false b h = cc
 

@@ -50,7 +50,7 @@ picked true x y p q = p
 picked false x y p q = q
 
 -- a code that may be absent is in range once the held one stands for it
-coded : (b : Bool) (o₁ o₂ : ℕ) → eqb o₂ 16 ≡ b → o₁ ≤ 15 → o₂ ≤ 16 → cond b o₁ o₂ ≤ 15
+pub coded : (b : Bool) (o₁ o₂ : ℕ) → eqb o₂ 16 ≡ b → o₁ ≤ 15 → o₂ ≤ 16 → cond b o₁ o₂ ≤ 15
 coded true o₁ o₂ e h₁ h₂ = h₁
 coded false o₁ o₂ e h₁ h₂ = let n : o₂ ≢ 16 = eqb-false o₂ 16 e in omega arith
 

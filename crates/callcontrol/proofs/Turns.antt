@@ -1,64 +1,30 @@
 -- What a turn does: it takes an event and leaves the call of that event's row, or it takes nothing and leaves the record as it was.
 use Prim.Native.Nat.{ℕ}
-use mathlib.Core.Path.{_≡_, refl}
-use mathlib.Core.Bool.{Bool, true, false, cond}
+use mathlib.Core.Path.{_≡_, refl, ap}
+use mathlib.Core.Bool.{Bool, true, false}
 use mathlib.Core.List.{List, [], _∷_, _++_}
-use mathlib.Core.Option.{Option, none, some}
+use mathlib.Core.Option.{none, some}
 use native.Mathlib.Omega.{arith}
-use lib.Dec.{leb, eqb}
-use lib.ListN.{length}
 use Rattle.records.specs.declared.events.Event.{Event}
-use Rattle.records.specs.Tables.{Read, taken, refused, read}
-use Rattle.records.specs.Events.{events}
 use Rattle.callcontrol.specs.declared.call.Call.{Call}
-use Rattle.callcontrol.specs.Call.{sound}
 use Rattle.callcontrol.specs.Rows.{rowFor}
-use Rattle.callcontrol.specs.Orders.{orders, bytesOf}
-use Rattle.callcontrol.specs.Step.{stepOf, decided, carried, otherCall}
-use Rattle.callcontrol.specs.Runs.{Turn, outcome, next, run, takenBy, ends, writtenBy, some?, endsCall}
+use Rattle.callcontrol.specs.Orders.{orders}
+use Rattle.callcontrol.specs.Step.{Outcome, otherCall}
+use Rattle.callcontrol.specs.Runs.{Turn, next, run, takenBy, ends, writtenBy, some?, endsCall}
+use Rattle.callcontrol.proofs.Answers as Answers
 
 -- the two things that a turn can do
 pub data Turned (c : Call) (t : Turn) : Type 0 where
   passed : takenBy c t ≡ none → next c t ≡ c → Turned c t
   took : (e : Event) → takenBy c t ≡ some e → next c t ≡ rowFor c e .call → rowFor c e .taken ≡ true → otherCall c e ≡ false → Turned c t
 
-module _ (c : Call) (t : Turn) (e : Event) (s : sound c ≡ true) (r : read events (t .event) ≡ taken e) where
-  -- answers 0 and 7
-  fitting : otherCall c e ≡ false → rowFor c e .taken ≡ true → (b : Bool) → leb (length (bytesOf (orders (rowFor c e)))) (length (t .buffer)) ≡ b → Turned c t
-  unfolding takenBy next outcome stepOf decided carried
-  fitting o w true l = took e (rw (s, r, o, l, w)) (cc) w o
-  fitting o w false l = passed (rw (s, r, o, l, w)) (cc)
-
-  -- answer 6
-  rowed : otherCall c e ≡ false → (b : Bool) → rowFor c e .taken ≡ b → Turned c t
-  unfolding takenBy next outcome stepOf decided
-  rowed o true w = fitting o w _ refl
-  rowed o false w = passed (rw (s, r, o, w)) (cc)
-
-  -- answer 5
-  named : (b : Bool) → otherCall c e ≡ b → Turned c t
-  unfolding takenBy next outcome stepOf decided
-  named true o = passed (rw (s, r, o)) (cc)
-  named false o = rowed o _ refl
-
-nothing : (b : Bool) → _≡_ {A = Option Event} (cond b none none) none
-nothing true = refl
-nothing false = refl
-
--- answers 2, 3 and 4
-readable : (c : Call) (t : Turn) → sound c ≡ true → (x : Read Event) → read events (t .event) ≡ x → Turned c t
-unfolding takenBy next outcome stepOf
-readable c t s (taken e) r = named c t e s r _ refl
-readable c t s (refused n) r = passed (rw (s, r) (nothing (eqb n 0))) (cc)
-
--- answer 1
-sounded : (c : Call) (t : Turn) (b : Bool) → sound c ≡ b → Turned c t
-unfolding takenBy next outcome stepOf
-sounded c t true s = readable c t s _ refl
-sounded c t false s = passed (rw s) (cc)
-
 pub turned : (c : Call) (t : Turn) → Turned c t
-turned c t = sounded c t _ refl
+unfolding next
+turned c t = from (Answers.turned c t)
+  where
+    from : Answers.Turned c t → Turned c t
+    from (Answers.kept n z g k) = passed k (ap (λ (o : Outcome). o .call) g)
+    from (Answers.took e a) = took e (a .takes) (ap (λ (o : Outcome). o .call) (a .gives)) (a .row) (a .ours)
 
 -- a run over two lists goes through the one and then the other
 pub run-append : (c : Call) (ts us : List Turn) → run c (ts ++ us) ≡ run (run c ts) us

@@ -29,18 +29,14 @@ use Rattle.callcontrol.specs.Orders.{when, held, byNumber, starting, ord
 use Rattle.callcontrol.specs.Runs.{Turn, outcome, next, eventIn, takenBy, messagesOf, writtenBy, writtenIn, every?}
 use Rattle.callcontrol.specs.Demands.{Kept, WrittenInRange}
 use Rattle.callcontrol.proofs.Reading.{read-fine}
-use Rattle.callcontrol.proofs.Situations.{Plane, transmit, receive, duplex, At, idle, mo, mt, up, broken, restoring, wait, disconnect, Situation, at, situated}
-use Rattle.callcontrol.proofs.Sound.{fresh-is-sound, step-keeps-sound}
+use Rattle.callcontrol.proofs.Situations.{Plane, transmit, receive, duplex, At, idle, mo, mt, up, broken, restoring, wait, disconnect, Situation, at, situated, and, and-l, and-r}
+use Rattle.callcontrol.proofs.Sound.{fresh-is-sound, step-keeps-sound, coded}
 use Rattle.callcontrol.proofs.Ranges.{Carries, carries, by-event}
 
 -- ---- messages in range
 
 abbrev Fine : Message → Type 0
 Fine m = fine messages m ≡ true
-
-and : (a b : Bool) → a ≡ true → b ≡ true → (a && b) ≡ true
-and true b p q = q
-and false b p q = p
 
 -- one, two or three letters that fit, and no test beside them
 one : (a : Bool) → a ≡ true → ((a && true) && true) ≡ true
@@ -257,11 +253,6 @@ grants {x} g v =
 grants-or-off : {x : Draft} (g : ℕ) → Good x → Good (grantOrOff g x)
 unfolding grantOrOff
 grants-or-off g v = either (eqb g 1 || eqb g 2) _ _ (off-is (grants g v)) (grants g v)
-
--- a code that may be absent is in range once the held one stands for it
-coded : (b : Bool) (held o : ℕ) → eqb o 16 ≡ b → held ≤ 15 → o ≤ 16 → cond b held o ≤ 15
-coded true held o e h k = h
-coded false held o e h k = let n : o ≢ 16 = eqb-false o 16 e in omega arith
 
 restarts : {x : Draft} (r o : ℕ) → o ≤ 16 → Good x → Good (restart r o x)
 unfolding restart
@@ -560,19 +551,11 @@ row-good c e k f = from (situated c k)
 record All (ms : List Message) : Type 0 where
   met : every? (λ m. fine messages m) ms ≡ true
 
-left : (a b : Bool) → (a && b) ≡ true → a ≡ true
-left true b h = refl
-left false b h = h
-
-right : (a b : Bool) → (a && b) ≡ true → b ≡ true
-right true b h = h
-right false b h = cc
-
 both : (ms ns : List Message) → All ms → All ns → All (ms ++ ns)
 both [] ns p q = q
 both (m ∷ ms) ns p q =
-    let rest : All ms = record { met = right (fine messages m) _ (p .met) } in
-    record { met = and _ _ (left (fine messages m) _ (p .met)) (both ms ns rest q .met) }
+    let rest : All ms = record { met = and-r (fine messages m) _ (p .met) } in
+    record { met = and _ _ (and-l (fine messages m) _ (p .met)) (both ms ns rest q .met) }
 
 whenever : (b : Bool) (m : Message) → (b ≡ true → Fine m) → All (when b m)
 whenever true m h = record { met = and _ _ (h refl) refl }
