@@ -4,9 +4,3 @@ pub mod Rows
 pub mod Settle
 pub mod Orders
 pub mod Step
-pub mod Examples
-pub mod WrongSteps
-pub mod Runs
-pub mod History
-pub mod Demands
-pub mod Witness

@@ -9,11 +9,11 @@ use lib.Dec.{eqb}
 use lib.ListN.{getD, take, drop}
 use Rattle.records.specs.declared.events.Event.{Event}
 use Rattle.records.specs.declared.events.Event.the-variants.{DCallRestore, Break}
 use Rattle.callcontrol.specs.declared.call.Call.{Call}
 use Rattle.callcontrol.specs.Call.{freshCall, stateNumber, pathNumber, _⇒_}
 use Rattle.callcontrol.specs.Step.{Outcome}
-use Rattle.callcontrol.specs.Runs.{Turn, outcome, next, run, takenBy, told, ends}
-use Rattle.callcontrol.specs.Demands.{quiet}
+use Rattle.demands.specs.Runs.{Turn, outcome, next, run, takenBy, told, ends}
+use Rattle.demands.specs.Demands.{quiet}
 
 -- 64 bytes are lent
 abbrev zeros : ℕ → List ℕ

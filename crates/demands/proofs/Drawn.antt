@@ -8,16 +8,16 @@ use borrow.Author.Tests.{eqb-true}
 use lib.Dec.{eqb}
 use lib.ListN.{getD}
 use Rattle.records.specs.declared.messages.Message.{Message}
 use Rattle.callcontrol.specs.declared.call.State.{State}
 use Rattle.callcontrol.specs.declared.call.Path.{Path}
 use Rattle.callcontrol.specs.declared.call.Call.{Call}
 use Rattle.callcontrol.specs.declared.draft.Slot.{Slot}
 use Rattle.callcontrol.specs.declared.draft.Draft.{Draft}
 use Rattle.callcontrol.specs.Call.{T301, T302, T303, T306, T308, T310, T311}
 use Rattle.callcontrol.specs.Draft.{_▷_, with, draft, go, onPath, storeId, storeAddress, storeMode, storeAsked, storeSent, storeCode, keep, stop, stopAll, start, expired, restart, samePlane, plane, off, grant, grantOrOff, cancel, say, tell, over, release}
 use Rattle.callcontrol.specs.Orders.{when, held, byNumber, starting, orders}
-use Rattle.callcontrol.specs.Runs.{toldAfter, lastTold}
-use Rattle.callcontrol.specs.History.{granted}
+use Rattle.demands.specs.Runs.{toldAfter, lastTold}
+use Rattle.demands.specs.History.{granted}
 
 -- ---- what the messages of a row tell
 

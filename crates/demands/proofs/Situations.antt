@@ -8,11 +8,11 @@ use native.Mathlib.Omega.{arith}
 use borrow.Author.Tests.{leb-true, eqb-true, le-leb, not-true}
 use lib.Dec.{leb, eqb}
 use lib.ListN.{length, getD}
 use Rattle.callcontrol.specs.declared.call.State.{State}
 use Rattle.callcontrol.specs.declared.call.Path.{Path}
 use Rattle.callcontrol.specs.declared.call.Call.{Call}
 use Rattle.callcontrol.specs.Call.{_⇒_, freshCall, stateNumber, pathNumber, isIdle, isActive, isUp, mayLackId, runs, T301, T302, T303, T306, T308, T310, T311, sound, inRange, asFresh, allStopped, timersAgree, placesAgree}
-use Rattle.callcontrol.specs.Demands.{Kept}
+use Rattle.demands.specs.Demands.{Kept}
 
 -- ---- the situations
 

@@ -7,18 +7,18 @@ use mathlib.Core.Option.{some}
 use native.Mathlib.Omega.{arith}
 use lib.ListN.{length}
 use Rattle.records.specs.declared.events.Event.{Event}
 use Rattle.callcontrol.specs.declared.call.Call.{Call}
 use Rattle.callcontrol.specs.Call.{freshCall, sound}
 use Rattle.callcontrol.specs.Step.{stepOf}
-use Rattle.callcontrol.specs.Runs.{Turn, outcome, next, run, takenBy, told}
-use Rattle.callcontrol.specs.Demands as claims
-use Rattle.callcontrol.specs.Demands.{Kept, applies}
-use Rattle.callcontrol.proofs.Answers as Answers
-use Rattle.callcontrol.proofs.Sound as Sound
-use Rattle.callcontrol.proofs.Told as Told
-use Rattle.callcontrol.proofs.Ended as Ended
-use Rattle.callcontrol.proofs.Cut as Cut
-use Rattle.callcontrol.proofs.WrittenInRange as WrittenInRange
+use Rattle.demands.specs.Runs.{Turn, outcome, next, run, takenBy, told}
+use Rattle.demands.specs.Demands as claims
+use Rattle.demands.specs.Demands.{Kept, applies}
+use Rattle.demands.proofs.Answers as Answers
+use Rattle.demands.proofs.Sound as Sound
+use Rattle.demands.proofs.Told as Told
+use Rattle.demands.proofs.Ended as Ended
+use Rattle.demands.proofs.Cut as Cut
+use Rattle.demands.proofs.WrittenInRange as WrittenInRange
 
 -- ---- demand 1
 

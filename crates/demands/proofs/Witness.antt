@@ -5,15 +5,15 @@ use Rattle.records.specs.Letters.{within, isTimer}
 use Rattle.records.specs.Bodies.{valueAt, valuesAt, kindIn, bodyOf, bodyBytes, flatSize, flatBytes}
 use Rattle.records.specs.Tables.{read, readAs, readBody}
 use Rattle.records.specs.Messages.{messageBytes}
 use Rattle.callcontrol.specs.Call.{sound, inRange, asFresh, allStopped, timersAgree, placesAgree}
 use Rattle.callcontrol.specs.Draft.{restart, grant, grantOrOff}
 use Rattle.callcontrol.specs.Rows.{releasing, released, disconnected, timedOut, expiry, idle, moCallSetup, mtCallSetup, demands, ceases, informed, cut, activeExpiry, activeUp, asks, activeBroken, activeRestoring, wait, confirmed, callDisconnect, active, inState, rowFor}
 use Rattle.callcontrol.specs.Orders.{byNumber, starting, orders, bytesOf}
 use Rattle.callcontrol.specs.Step.{otherCall, carried, decided, stepOf}
-use Rattle.callcontrol.specs.Runs.{outcome, next, run, takenBy, writtenBy, writtenIn, toldAfter, lastTold, told, endsCall, ends}
-use Rattle.callcontrol.specs.Demands.{restores, quiet}
+use Rattle.demands.specs.Runs.{outcome, next, run, takenBy, writtenBy, writtenIn, toldAfter, lastTold, told, endsCall, ends}
+use Rattle.demands.specs.Demands.{restores, quiet}
 use Rattle.callcontrol.proofs.Verbs.{verbs}
-use Rattle.callcontrol.specs.Witness.{flags, numbers, same, agrees, goesSo, Witness}
+use Rattle.demands.specs.Witness.{flags, numbers, same, agrees, goesSo, Witness}
 
 pub witness : Witness
 unfolding goesSo agrees same numbers flags restores quiet number bytes within isTimer valueAt valuesAt kindIn bodyOf bodyBytes flatSize flatBytes read readAs readBody messageBytes sound inRange asFresh allStopped timersAgree placesAgree verbs restart grant grantOrOff releasing released disconnected timedOut expiry idle moCallSetup mtCallSetup demands ceases informed cut activeExpiry activeUp asks activeBroken activeRestoring wait confirmed callDisconnect active inState rowFor byNumber starting orders bytesOf otherCall carried decided stepOf outcome next run takenBy writtenBy writtenIn toldAfter lastTold told endsCall ends

@@ -12,17 +12,17 @@ use Rattle.records.specs.Letters.{within}
 use Rattle.records.specs.Bodies.{flatFits, allFit}
 use Rattle.records.specs.Tables.{fine}
 use Rattle.records.specs.Events.{events}
 use Rattle.callcontrol.specs.declared.call.State.{State}
 use Rattle.callcontrol.specs.declared.call.Path.{Path}
 use Rattle.callcontrol.specs.declared.call.Call.{Call}
 use Rattle.callcontrol.specs.declared.draft.Draft.{Draft}
 use Rattle.callcontrol.specs.Call.{sound, runs, T301, T302, T303, T306, T308, T310, T311}
 use Rattle.callcontrol.specs.Draft.{_▷_, draft, noRow}
 use Rattle.callcontrol.specs.Rows.{releasing, released, disconnected, timedOut, expiry, confirmed, demands, ceases, informed, cut, activeExpiry, asks, idle, moCallSetup, mtCallSetup, activeUp, activeBroken, activeRestoring, wait, callDisconnect, active, inState, rowFor}
-use Rattle.callcontrol.specs.Runs.{toldAfter}
-use Rattle.callcontrol.specs.History.{History, switched, note}
-use Rattle.callcontrol.proofs.Places.{plane-off}
-use Rattle.callcontrol.proofs.Drawn.{PlainSlot, Tells, Drawn, begun, placed, named, addressed, asking, sending, coded, stopped, started, ran-out, stopped-all, cancelled, saying, telling, gone, in-mode, keeping, told-again, at-plane, switched-off, restarted, ended, releases, grants, grants-or-off}
+use Rattle.demands.specs.Runs.{toldAfter}
+use Rattle.demands.specs.History.{History, switched, note}
+use Rattle.demands.proofs.Places.{plane-off}
+use Rattle.demands.proofs.Drawn.{PlainSlot, Tells, Drawn, begun, placed, named, addressed, asking, sending, coded, stopped, started, ran-out, stopped-all, cancelled, saying, telling, gone, in-mode, keeping, told-again, at-plane, switched-off, restarted, ended, releases, grants, grants-or-off}
 
 -- a state with a plane, a mode and a kept plane, against the history
 abbrev pub Fits : State → ℕ → ℕ → ℕ → History → Type 0

@@ -9,14 +9,14 @@ use Rattle.records.specs.Bytes.{number, bytes}
 use Rattle.records.specs.Bodies.{valueAt, valuesAt, kindIn, bodyOf, bodyBytes, flatSize, flatBytes}
 use Rattle.records.specs.Tables.{readBody, readAs, read}
 use Rattle.records.specs.Messages.{messageBytes}
 use Rattle.callcontrol.specs.declared.call.Call.{Call}
 use Rattle.callcontrol.specs.Call.{freshCall, allStopped, inRange, asFresh, timersAgree, placesAgree, sound}
 use Rattle.callcontrol.specs.Draft.{draft, go, storeAddress, storeMode, storeAsked, start, say}
 use Rattle.callcontrol.specs.Rows.{idle, inState, rowFor}
 use Rattle.callcontrol.specs.Orders.{byNumber, starting, orders, bytesOf}
 use Rattle.callcontrol.specs.Step.{Outcome, otherCall, carried, decided, stepOf}
-use Rattle.callcontrol.specs.Examples.{setupRequest}
-use Rattle.callcontrol.specs.WrongSteps.{Step, Promise, refusesAll, singleAnswer, writesNothing, firstOnly, countsMore}
+use Rattle.demands.specs.Examples.{setupRequest}
+use Rattle.demands.specs.WrongSteps.{Step, Promise, refusesAll, singleAnswer, writesNothing, firstOnly, countsMore}
 
 -- the first input: a SETUP request in IDLE, with 64 bytes lent
 abbrev first : Step → Outcome

@@ -13,15 +13,15 @@ use Rattle.records.specs.declared.events.Event.{Event}
 use Rattle.records.specs.Tables.{Read, taken, refused, read, fine}
 use Rattle.records.specs.Events.{events}
 use Rattle.records.proofs.Tables.{event-lawful}
 use Rattle.callcontrol.specs.declared.call.Call.{Call}
 use Rattle.callcontrol.specs.declared.draft.Draft.{Draft}
 use Rattle.callcontrol.specs.Call.{sound}
 use Rattle.callcontrol.specs.Rows.{rowFor}
 use Rattle.callcontrol.specs.Orders.{orders, bytesOf}
 use Rattle.callcontrol.specs.Step.{Outcome, refusal, otherCall, carried, decided, whenRead, stepOf}
-use Rattle.callcontrol.specs.Runs.{Turn, outcome, next, takenBy, eventIn, writtenBy}
-use Rattle.callcontrol.specs.Demands.{refusedWith, ofEvent, applies, Answered, Refused, Zero, Taken}
-use Rattle.callcontrol.proofs.Reading.{Each, read-each}
+use Rattle.demands.specs.Runs.{Turn, outcome, next, takenBy, eventIn, writtenBy}
+use Rattle.demands.specs.Demands.{refusedWith, ofEvent, applies, Answered, Refused, Zero, Taken}
+use Rattle.demands.proofs.Reading.{Each, read-each}
 
 -- what a turn gives back where a row is carried out
 abbrev pub accepted : Draft → List ℕ → Outcome

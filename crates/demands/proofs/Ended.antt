@@ -9,19 +9,19 @@ use lib.ListN.{length, getD}
 use Rattle.records.specs.declared.events.Event.{Event}
 use Rattle.records.specs.declared.events.Event.the-variants.{SetupRequest, SetupResponse, ReleaseRequest, TxRequest, ModifyRequest, DCallProceeding, DAlert, DConnect, DConnectAcknowledge, DSetup, DInfo, DTxGranted, DTxCeased, DTxInterrupt, DTxWait, DTxContinue, DCallRestore, DDisconnect, DRelease, ReportSent, ReportFailed, Break, Resume, Expiry}
 use Rattle.records.specs.declared.messages.Message.{Message}
 use Rattle.callcontrol.specs.declared.call.State.{State}
 use Rattle.callcontrol.specs.declared.call.Path.{Path}
 use Rattle.callcontrol.specs.declared.call.Call.{Call}
 use Rattle.callcontrol.specs.declared.draft.Slot.{Slot}
 use Rattle.callcontrol.specs.declared.draft.Draft.{Draft}
 use Rattle.callcontrol.specs.Call.{_⇒_, none as stoppedTimers, freshCall, sound, asFresh, allStopped, stateNumber, pathNumber, runs, isIdle, T301, T302, T303, T306, T308, T310, T311}
 use Rattle.callcontrol.specs.Draft.{draft, noRow, go, storeAsked, storeCode, stop, start, restart, samePlane, plane, off, grant, grantOrOff, tell}
 use Rattle.callcontrol.specs.Rows.{releasing, released, disconnected, timedOut, expiry, idle, moCallSetup, mtCallSetup, demands, ceases, informed, cut, activeExpiry, activeUp, activeBroken, activeRestoring, wait, confirmed, callDisconnect, active, inState, rowFor}
 use Rattle.callcontrol.specs.Orders.{when, held, byNumber, starting, orders}
-use Rattle.callcontrol.specs.Runs.{Turn, next, run, ends, some?, endsCall}
-use Rattle.callcontrol.specs.Demands.{Ended, NoOtherEnd, IdleIsFresh, Sound}
+use Rattle.demands.specs.Runs.{Turn, next, run, ends, some?, endsCall}
+use Rattle.demands.specs.Demands.{Ended, NoOtherEnd, IdleIsFresh, Sound}
 use Rattle.callcontrol.proofs.Verbs.{verbs}
-use Rattle.callcontrol.proofs.Turns.{Turned, passed, took, turned, run-last, ends-by, ends-not, apart}
+use Rattle.demands.proofs.Turns.{Turned, passed, took, turned, run-last, ends-by, ends-not, apart}
 
 -- ---- among a row's messages, only the U-PDU and the user primitive could end a call
 

@@ -12,21 +12,21 @@ use lib.ListN.{length}
 use Rattle.records.specs.declared.events.Event.{Event}
 use Rattle.records.specs.Tables.{fine}
 use Rattle.records.specs.Events.{events}
 use Rattle.callcontrol.specs.declared.call.State.{State}
 use Rattle.callcontrol.specs.declared.call.Call.{Call}
 use Rattle.callcontrol.specs.declared.draft.Draft.{Draft}
 use Rattle.callcontrol.specs.Call.{freshCall, allStopped, inRange, asFresh, timersAgree, placesAgree, sound}
 use Rattle.callcontrol.specs.Rows.{rowFor}
 use Rattle.callcontrol.specs.Orders.{orders}
 use Rattle.callcontrol.specs.Step.{Outcome}
-use Rattle.callcontrol.specs.Runs.{Turn, outcome, next, run, takenBy, messagesOf, writtenBy, listed, takenIn, writtenIn, lastTold, told}
-use Rattle.callcontrol.specs.History.{History, atFirst, note, reads, planeByHistory}
-use Rattle.callcontrol.specs.Demands.{Sound, Told, Transmits}
-use Rattle.callcontrol.proofs.Reading.{read-fine}
-use Rattle.callcontrol.proofs.Answers.{Turned, kept, took, turned}
-use Rattle.callcontrol.proofs.Places.{plane-some, plane-on}
-use Rattle.callcontrol.proofs.Drawn.{Tells, silent, loud, lastTold-append, orders-tell}
-use Rattle.callcontrol.proofs.Follows.{Fits, Agrees, Lands, follows}
+use Rattle.demands.specs.Runs.{Turn, outcome, next, run, takenBy, messagesOf, writtenBy, listed, takenIn, writtenIn, lastTold, told}
+use Rattle.demands.specs.History.{History, atFirst, note, reads, planeByHistory}
+use Rattle.demands.specs.Demands.{Sound, Told, Transmits}
+use Rattle.demands.proofs.Reading.{read-fine}
+use Rattle.demands.proofs.Answers.{Turned, kept, took, turned}
+use Rattle.demands.proofs.Places.{plane-some, plane-on}
+use Rattle.demands.proofs.Drawn.{Tells, silent, loud, lastTold-append, orders-tell}
+use Rattle.demands.proofs.Follows.{Fits, Agrees, Lands, follows}
 
 -- a plane that is told is some plane, so that 0 stands for no CONFIGURE
 tells-plane : {was plane told : ℕ} → Tells was plane told → 1 ≤ plane → cond (eqb told 0) was told ≡ plane

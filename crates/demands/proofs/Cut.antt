@@ -11,19 +11,19 @@ use lib.ListN.{length, getD, set, length-set}
 use lib.Seq.{getD-set-same, getD-set-other}
 use Rattle.records.specs.declared.events.Event.{Event}
 use Rattle.records.specs.declared.events.Event.the-variants.{SetupRequest, SetupResponse, ReleaseRequest, TxRequest, ModifyRequest, DCallProceeding, DAlert, DConnect, DConnectAcknowledge, DSetup, DInfo, DTxGranted, DTxCeased, DTxInterrupt, DTxWait, DTxContinue, DCallRestore, DDisconnect, DRelease, ReportSent, ReportFailed, Break, Resume, Expiry}
 use Rattle.callcontrol.specs.declared.call.State.{State}
 use Rattle.callcontrol.specs.declared.call.Path.{Path}
 use Rattle.callcontrol.specs.declared.call.Call.{Call}
 use Rattle.callcontrol.specs.declared.draft.Draft.{Draft}
 use Rattle.callcontrol.specs.Call.{freshCall, sound, placesAgree, mayLackId, runs, isIdle, T301, T302, T303, T306, T308, T310, T311}
 use Rattle.callcontrol.specs.Draft.{draft, noRow, onPath, storeAsked, storeCode, stop, start, restart, samePlane, plane, grant, tell}
 use Rattle.callcontrol.specs.Rows.{releasing, released, disconnected, timedOut, expiry, cut as cutRow, activeUp, activeBroken, activeRestoring, wait, idle, moCallSetup, mtCallSetup, confirmed, callDisconnect, active, inState, rowFor}
 use Rattle.callcontrol.specs.Step.{otherCall}
-use Rattle.callcontrol.specs.Runs.{Turn, next, run, takenBy, ends, told}
-use Rattle.callcontrol.specs.Demands.{Sound, Cut, Restored, restoresIn, restores, quiet}
+use Rattle.demands.specs.Runs.{Turn, next, run, takenBy, ends, told}
+use Rattle.demands.specs.Demands.{Sound, Cut, Restored, restoresIn, restores, quiet}
 use Rattle.callcontrol.proofs.Verbs.{verbs}
-use Rattle.callcontrol.proofs.Turns.{Turned, passed, took, turned, ByRow, taken-row, run-append, run-last, ends-by, apart}
-use Rattle.callcontrol.proofs.Ended.{Finish, ending, going, finish, either, left, right, is, is-not}
+use Rattle.demands.proofs.Turns.{Turned, passed, took, turned, ByRow, taken-row, run-append, run-last, ends-by, apart}
+use Rattle.demands.proofs.Ended.{Finish, ending, going, finish, either, left, right, is, is-not}
 
 -- ---- what a cut leaves
 

@@ -6,12 +6,12 @@ use mathlib.Core.List.{List, [], _∷_, _++_}
 use mathlib.Core.Option.{none, some}
 use native.Mathlib.Omega.{arith}
 use Rattle.records.specs.declared.events.Event.{Event}
 use Rattle.callcontrol.specs.declared.call.Call.{Call}
 use Rattle.callcontrol.specs.Rows.{rowFor}
 use Rattle.callcontrol.specs.Orders.{orders}
 use Rattle.callcontrol.specs.Step.{Outcome, otherCall}
-use Rattle.callcontrol.specs.Runs.{Turn, next, run, takenBy, ends, writtenBy, some?, endsCall}
-use Rattle.callcontrol.proofs.Answers as Answers
+use Rattle.demands.specs.Runs.{Turn, next, run, takenBy, ends, writtenBy, some?, endsCall}
+use Rattle.demands.proofs.Answers as Answers
 
 -- the two things that a turn can do
 pub data Turned (c : Call) (t : Turn) : Type 0 where

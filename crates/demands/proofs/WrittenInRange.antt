@@ -17,21 +17,21 @@ use Rattle.records.specs.Bodies.{allFit, flatFits}
 use Rattle.records.specs.Tables.{Read, taken, read, fine}
 use Rattle.records.specs.Events.{events}
 use Rattle.records.specs.Messages.{messages, startAgrees}
 use Rattle.callcontrol.specs.declared.call.State.{State}
 use Rattle.callcontrol.specs.declared.call.Path.{Path}
 use Rattle.callcontrol.specs.declared.call.Call.{Call}
 use Rattle.callcontrol.specs.declared.draft.Slot.{Slot}
 use Rattle.callcontrol.specs.declared.draft.Draft.{Draft}
 use Rattle.callcontrol.specs.Draft.{draft, noRow, go, onPath, storeId, storeAddress, storeMode, storeAsked, storeSent, storeCode, keep, stop, stopAll, start, expired, restart, samePlane, plane, off, grant, grantOrOff, cancel, say, tell, over, release}
 use Rattle.callcontrol.specs.Rows
 use Rattle.callcontrol.specs.Call.{freshCall, T301, T302, T303, T306, T308, T310, T311}
 use Rattle.callcontrol.specs.Orders.{when, held, byNumber, starting, orders}
-use Rattle.callcontrol.specs.Runs.{Turn, outcome, next, eventIn, takenBy, messagesOf, writtenBy, writtenIn, every?}
-use Rattle.callcontrol.specs.Demands.{Kept, WrittenInRange}
-use Rattle.callcontrol.proofs.Reading.{read-fine}
-use Rattle.callcontrol.proofs.Situations.{Plane, transmit, receive, duplex, At, idle, mo, mt, up, broken, restoring, wait, disconnect, Situation, at, situated, and, and-l, and-r}
-use Rattle.callcontrol.proofs.Sound.{fresh-is-sound, step-keeps-sound, coded}
-use Rattle.callcontrol.proofs.Ranges.{Carries, carries, by-event}
+use Rattle.demands.specs.Runs.{Turn, outcome, next, eventIn, takenBy, messagesOf, writtenBy, writtenIn, every?}
+use Rattle.demands.specs.Demands.{Kept, WrittenInRange}
+use Rattle.demands.proofs.Reading.{read-fine}
+use Rattle.demands.proofs.Situations.{Plane, transmit, receive, duplex, At, idle, mo, mt, up, broken, restoring, wait, disconnect, Situation, at, situated, and, and-l, and-r}
+use Rattle.demands.proofs.Sound.{fresh-is-sound, step-keeps-sound, coded}
+use Rattle.demands.proofs.Ranges.{Carries, carries, by-event}
 
 -- ---- messages in range
 

@@ -5,10 +5,10 @@ use mathlib.Core.Bool.{Bool, true, false, not, _&&_, _||_}
 use mathlib.Core.List.{List, [], _∷_}
 use lib.Dec.{eqb}
 use lib.ListN.{replicate}
 use Rattle.callcontrol.specs.declared.call.Call.{Call}
 use Rattle.callcontrol.specs.Call.{freshCall, isIdle, runs, stateNumber, T301, T302, T303, T306, T308, T310, T311}
 use Rattle.callcontrol.specs.Step.{Outcome}
-use Rattle.callcontrol.specs.Runs.{Turn, outcome}
+use Rattle.demands.specs.Runs.{Turn, outcome}
 
 -- the events, as they come in: length, kind, body, each the lowest byte first
 

@@ -12,15 +12,15 @@ use Rattle.records.specs.declared.events.Event.the-variants.{SetupRequest, Setu
 use Rattle.records.specs.Tables.{Read, taken, refused, read, fine}
 use Rattle.records.specs.Events.{events}
 use Rattle.records.specs.Messages.{messages}
 use Rattle.callcontrol.specs.declared.call.State.{State}
 use Rattle.callcontrol.specs.declared.call.Path.{Path}
 use Rattle.callcontrol.specs.declared.call.Call.{Call}
 use Rattle.callcontrol.specs.Call.{freshCall, sound, runs, isIdle, T310}
 use Rattle.callcontrol.specs.Rows.{rowFor}
 use Rattle.callcontrol.specs.Orders.{orders, bytesOf}
 use Rattle.callcontrol.specs.Step.{refusal, stepOf, otherCall}
-use Rattle.callcontrol.specs.Runs.{Turn, outcome, next, run, takenBy, takenIn, writtenBy, writtenIn, every?, told, ends}
-use Rattle.callcontrol.specs.History.{planeByHistory}
+use Rattle.demands.specs.Runs.{Turn, outcome, next, run, takenBy, takenIn, writtenBy, writtenIn, every?, told, ends}
+use Rattle.demands.specs.History.{planeByHistory}
 
 -- Demand 1: every turn gets an answer; the lowest number that applies; a refusal writes no byte and gives the record back
 

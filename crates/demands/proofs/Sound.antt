@@ -11,20 +11,20 @@ use Rattle.records.specs.declared.events.Event.{Event}
 use Rattle.records.specs.declared.events.Event.the-variants.{SetupRequest, SetupResponse, ReleaseRequest, TxRequest, ModifyRequest, DCallProceeding, DAlert, DConnect, DConnectAcknowledge, DSetup, DInfo, DTxGranted, DTxCeased, DTxInterrupt, DTxWait, DTxContinue, DCallRestore, DDisconnect, DRelease, ReportSent, ReportFailed, Break, Resume, Expiry}
 use Rattle.records.specs.Tables.{Read, taken, refused, read}
 use Rattle.records.specs.Events.{events}
-use Rattle.callcontrol.proofs.Reading.{read-fine}
+use Rattle.demands.proofs.Reading.{read-fine}
 use Rattle.callcontrol.specs.declared.call.State.{State}
 use Rattle.callcontrol.specs.declared.call.Path.{Path}
 use Rattle.callcontrol.specs.declared.call.Call.{Call}
 use Rattle.callcontrol.specs.declared.draft.Slot.{Slot}
 use Rattle.callcontrol.specs.declared.draft.Draft.{Draft}
 use Rattle.callcontrol.specs.Call.{sound}
 use Rattle.callcontrol.specs.Draft.{draft, noRow, go, onPath, storeId, storeAddress, storeMode, storeAsked, storeSent, storeCode, keep, stop, stopAll, start, expired, restart, samePlane, plane, off, grant, grantOrOff, cancel, say, tell, over, release}
 use Rattle.callcontrol.specs.Rows
 use Rattle.callcontrol.specs.Rows.{rowFor}
 use Rattle.callcontrol.specs.Step.{Outcome, whenRead, decided, carried, stepOf}
-use Rattle.callcontrol.specs.Demands.{Kept, FreshIsSound, KeepsSound, StepKeepsSound}
-use Rattle.callcontrol.proofs.Situations.{Numbers, Plane, transmit, receive, duplex, none, call, At, idle, mo, mt, up, broken, restoring, wait, disconnect, Situation, at, here, kept, situated}
-use Rattle.callcontrol.proofs.Ranges.{Carries, carries, by-event}
+use Rattle.demands.specs.Demands.{Kept, FreshIsSound, KeepsSound, StepKeepsSound}
+use Rattle.demands.proofs.Situations.{Numbers, Plane, transmit, receive, duplex, none, call, At, idle, mo, mt, up, broken, restoring, wait, disconnect, Situation, at, here, kept, situated}
+use Rattle.demands.proofs.Ranges.{Carries, carries, by-event}
 
 -- ---- what rows share
 

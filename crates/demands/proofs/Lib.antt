@@ -1,0 +1,17 @@
+pub mod Answers
+pub mod Cut
+pub mod Demands
+pub mod Drawn
+pub mod Ended
+pub mod Examples
+pub mod Follows
+pub mod Places
+pub mod Ranges
+pub mod Reading
+pub mod Situations
+pub mod Sound
+pub mod Told
+pub mod Turns
+pub mod Witness
+pub mod WrittenInRange
+pub mod WrongSteps

@@ -1,0 +1,6 @@
+pub mod Runs
+pub mod History
+pub mod Demands
+pub mod Examples
+pub mod Witness
+pub mod WrongSteps
