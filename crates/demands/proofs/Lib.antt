@@ -1,4 +1,6 @@
 pub mod Answers
+pub mod ByRow
+pub mod Cases
 pub mod Cut
 pub mod Demands
 pub mod Drawn

@@ -133,17 +133,17 @@ plane-of (suc (suc (suc (suc zero)))) l h = none
 plane-of (suc (suc (suc (suc (suc p))))) l h = absurd (omega (arith, leb-true (suc (suc (suc (suc (suc p))))) 4 h))
 
 -- the paper's clauses one by one
-record Clauses (c : Call) : Type 0 where
-  numbers : Numbers (c .id) (c .address) (c .mode) (c .asked) (c .sent) (c .code)
-  told : Plane (c .plane) (eqb (c .plane) 1)
-  held : Plane (c .kept) (eqb (c .kept) 1)
-  fresh : (isIdle c ⇒ asFresh c) ≡ true
-  t311 : runs c T311 ≡ eqb (c .plane) 1
-  t306 : runs c T306 ≡ eqb (pathNumber (c .path)) 2
-  off-unless : (eqb (c .plane) 4 || isActive c && isUp c) ≡ true
-  up-unless : (isUp c || isActive c) ≡ true
-  four-unless : (eqb (c .kept) 4 || eqb (stateNumber (c .state)) 4) ≡ true
-  named-unless : (leb 1 (c .id) || mayLackId (c .state)) ≡ true
+pub record Clauses (c : Call) : Type 0 where
+  pub numbers : Numbers (c .id) (c .address) (c .mode) (c .asked) (c .sent) (c .code)
+  pub told : Plane (c .plane) (eqb (c .plane) 1)
+  pub held : Plane (c .kept) (eqb (c .kept) 1)
+  pub fresh : (isIdle c ⇒ asFresh c) ≡ true
+  pub t311 : runs c T311 ≡ eqb (c .plane) 1
+  pub t306 : runs c T306 ≡ eqb (pathNumber (c .path)) 2
+  pub off-unless : (eqb (c .plane) 4 || isActive c && isUp c) ≡ true
+  pub up-unless : (isUp c || isActive c) ≡ true
+  pub four-unless : (eqb (c .kept) 4 || eqb (stateNumber (c .state)) 4) ≡ true
+  pub named-unless : (leb 1 (c .id) || mayLackId (c .state)) ≡ true
 
 numbers-of : (c : Call) → inRange c ≡ true → Numbers (c .id) (c .address) (c .mode) (c .asked) (c .sent) (c .code)
 unfolding inRange
@@ -157,7 +157,7 @@ held-of : (c : Call) → inRange c ≡ true → Plane (c .kept) (eqb (c .kept) 1
 unfolding inRange
 held-of c h = search (and-l, and-r, plane-of) depth 12
 
-clauses : (c : Call) → sound c ≡ true → Clauses c
+pub clauses : (c : Call) → sound c ≡ true → Clauses c
 unfolding sound timersAgree placesAgree
 clauses c h = search (and-l, and-r, numbers-of, told-of, held-of, agree)
 
@@ -168,7 +168,7 @@ or-no false h = h
 is-four : (p : ℕ) → (eqb p 4 || false) ≡ true → p ≡ 4
 is-four p h = eqb-true p 4 (or-no _ h)
 
-is-named : (i : ℕ) → (leb 1 i || false) ≡ true → 1 ≤ i
+pub is-named : (i : ℕ) → (leb 1 i || false) ≡ true → 1 ≤ i
 is-named i h = leb-true 1 i (or-no _ h)
 
 -- IDLE leaves nothing open
