@@ -1,18 +1,15 @@
 -- Every demand is met.
 use Prim.Native.Nat.{ℕ}
-use mathlib.Core.Path.{_≡_, refl, sym, _∙_, ap}
-use mathlib.Core.Bool.{Bool, true, false, cond, not}
+use mathlib.Core.Path.{_≡_, sym, _∙_, ap}
+use mathlib.Core.Bool.{Bool, true, false, cond}
 use mathlib.Core.List.{List, [], _∷_, _++_}
-use mathlib.Core.Option.{some}
 use native.Mathlib.Omega.{arith}
-use lib.ListN.{length}
-use Rattle.records.specs.declared.events.Event.{Event}
 use Rattle.callcontrol.specs.declared.call.Call.{Call}
 use Rattle.callcontrol.specs.Call.{freshCall, sound}
 use Rattle.callcontrol.specs.Step.{stepOf}
-use Rattle.demands.specs.Runs.{Turn, outcome, next, run, takenBy, told}
+use Rattle.demands.specs.Runs.{outcome, run}
 use Rattle.demands.specs.Demands as claims
-use Rattle.demands.specs.Demands.{Kept, applies}
+use Rattle.demands.specs.Demands.{applies}
 use Rattle.demands.proofs.Answers as Answers
 use Rattle.demands.proofs.Sound as Sound
 use Rattle.demands.proofs.Told as Told
@@ -37,19 +34,8 @@ keeps-sound = Sound.keeps-sound
 pub step-keeps-sound : claims.StepKeepsSound
 step-keeps-sound = Sound.step-keeps-sound
 
-run-kept : (c : Call) → Kept c → (ts : List Turn) → Kept (run c ts)
-unfolding run next outcome
-run-kept c k [] = k
-run-kept c k (t ∷ ts) = run-kept (next c t) (step-keeps-sound c (t .event) (t .buffer) k) ts
-
-always : (ts : List Turn) → Kept (run freshCall ts)
-always = run-kept freshCall fresh-is-sound
-
 pub run-sound : claims.Sound
-run-sound ts = always ts .meets
-
-run-sized : (ts : List Turn) → length (run freshCall ts .timers) ≡ 7
-run-sized ts = always ts .size
+run-sound ts = Sound.always ts .meets
 
 -- a number found among 2 to 7, or none, is not 1
 not-one : (b₂ b₃ b₄ b₅ b₆ b₇ : Bool) → _≡_ {A = ℕ} (cond b₂ 2 (cond b₃ 3 (cond b₄ 4 (cond b₅ 5 (cond b₆ 6 (cond b₇ 7 0)))))) 1 → ⊥
@@ -87,24 +73,19 @@ written-in-range = WrittenInRange.written-in-range
 -- ---- demand 3
 
 pub told-by-history : claims.Told
-told-by-history =
-    Told.told-by-history
-    (λ c e size meets good row. let k = keeps-sound c e (record { size = size; meets = meets }) good in (k .meets, k .size))
-
-told-is-plane : (ts : List Turn) → told ts ≡ run freshCall ts .plane
-told-is-plane ts = told-by-history ts .1
+told-by-history = Told.told-by-history
 
 pub cut : claims.Cut
-cut = Cut.cut run-sound told-is-plane
+cut = Cut.cut
 
 pub restored : claims.Restored
-restored = Cut.restored run-sound run-sized
+restored = Cut.restored
 
 pub ended : claims.Ended
 ended = Ended.ended
 
 pub ended-off : claims.EndedOff
-ended-off ts t e = told-is-plane (ts ++ t ∷ []) ∙ ap (λ (c : Call). c .plane) (ended ts t e)
+ended-off ts t e = Told.told-is-plane (ts ++ t ∷ []) ∙ ap (λ (c : Call). c .plane) (ended ts t e)
 
 pub no-other-end : claims.NoOtherEnd
 no-other-end = Ended.no-other-end
@@ -112,7 +93,7 @@ no-other-end = Ended.no-other-end
 -- ---- in the client's words
 
 pub idle-is-fresh : claims.IdleIsFresh
-idle-is-fresh = Ended.idle-is-fresh run-sound run-sized
+idle-is-fresh = Ended.idle-is-fresh
 
 pub transmits : claims.Transmits
-transmits = Told.transmits told-by-history run-sound
+transmits = Told.transmits

@@ -6,6 +6,7 @@ pub mod Demands
 pub mod Drawn
 pub mod Ended
 pub mod Examples
+pub mod Facts
 pub mod Follows
 pub mod Places
 pub mod Ranges

@@ -1,18 +1,19 @@
 -- A record is sound exactly where it is in one of eight situations, written out by state and path. In each the state, the path, the planes
 -- that must be off and the timers that go with them are constructors and numerals, so that a row computes there.
 use Prim.Native.Nat.{ℕ, zero, suc, _≤_}
-use mathlib.Core.Bool.{Bool, true, false, not, _&&_, _||_, Bool·beq, or-true, false≢true}
+use mathlib.Core.Bool.{Bool, true, false, _&&_, _||_, Bool·beq, or-true, false≢true}
 use mathlib.Core.List.{List, [], _∷_}
 use mathlib.Core.Path.{_≡_, refl}
 use native.Mathlib.Omega.{arith}
 use borrow.Author.Tests.{leb-true, eqb-true, le-leb, not-true}
 use lib.Dec.{leb, eqb}
-use lib.ListN.{length, getD}
+use lib.ListN.{length}
 use Rattle.callcontrol.specs.declared.call.State.{State}
 use Rattle.callcontrol.specs.declared.call.Path.{Path}
 use Rattle.callcontrol.specs.declared.call.Call.{Call}
 use Rattle.callcontrol.specs.Call.{_⇒_, freshCall, stateNumber, pathNumber, isIdle, isActive, isUp, mayLackId, runs, T301, T302, T303, T306, T308, T310, T311, sound, inRange, asFresh, allStopped, timersAgree, placesAgree}
 use Rattle.demands.specs.Demands.{Kept}
+use Rattle.demands.proofs.Facts.{and, left, right}
 
 -- ---- the situations
 
@@ -67,22 +68,15 @@ pub data At : State → Path → Call → Type 0 where
   disconnect : {i a d q s o : ℕ} {t₁ t₂ t₃ t₈ t₁₀ : Bool} → Numbers i a d q s o
       → At State.CallDisconnect Path.Up (call State.CallDisconnect Path.Up i a d q s 4 4 o t₁ t₂ t₃ false t₈ t₁₀ false)
 
-pub data Situation (c : Call) : Type 0 where
-  at : {s : State} {w : Path} → At s w c → Situation c
-
--- its state and path are the call's
-pub here : (c : Call) → At (c .state) (c .path) c → Situation c
-here c v = at v
+-- a call in its own situation
+abbrev pub Situated : Call → Type 0
+Situated c = At (c .state) (c .path) c
 
 -- ---- a situation is sound: each part of the test is in the situation's facts
 
-pub and : (a b : Bool) → a ≡ true → b ≡ true → (a && b) ≡ true
-and true b p q = q
-and false b p q = p
-
-left : (a b : Bool) → a ≡ true → (a || b) ≡ true
-left true b p = refl
-left false b p = cc
+or-left : (a b : Bool) → a ≡ true → (a || b) ≡ true
+or-left true b p = refl
+or-left false b p = cc
 
 plane-fits : {p : ℕ} {t : Bool} → Plane p t → (leb 1 p ≡ true) × (leb p 4 ≡ true) × (Bool·beq t (eqb p 1) ≡ true)
 plane-fits transmit = (refl, refl, refl)
@@ -95,7 +89,7 @@ ranged : {t u : Bool} (c : Call) → Numbers (c .id) (c .address) (c .mode) (c .
 unfolding inRange
 ranged c n p k = search (and, le-leb, plane-fits p .0, plane-fits p .1, plane-fits k .0, plane-fits k .1) depth 12
 
-ruleset meeting = (and, left, or-true, ranged, none, le-leb)
+ruleset meeting = (and, or-left, or-true, ranged, none, le-leb)
 
 pub kept : {s : State} {w : Path} {c : Call} → At s w c → Kept c
 unfolding sound asFresh allStopped timersAgree placesAgree inRange
@@ -109,14 +103,6 @@ kept (wait l k n) = record { size = refl; meets = search meeting depth 8 }
 kept (disconnect n) = record { size = refl; meets = search meeting depth 8 }
 
 -- ---- a sound record is in a situation: the test is taken apart, and what it fixes is put in
-
-pub and-l : (a b : Bool) → (a && b) ≡ true → a ≡ true
-and-l true b h = refl
-and-l false b h = h
-
-pub and-r : (a b : Bool) → (a && b) ≡ true → b ≡ true
-and-r true b h = h
-and-r false b h = cc
 
 agree : (a b : Bool) → Bool·beq a b ≡ true → a ≡ b
 agree true true h = refl
@@ -147,19 +133,19 @@ pub record Clauses (c : Call) : Type 0 where
 
 numbers-of : (c : Call) → inRange c ≡ true → Numbers (c .id) (c .address) (c .mode) (c .asked) (c .sent) (c .code)
 unfolding inRange
-numbers-of c h = search (and-l, and-r, leb-true) depth 12
+numbers-of c h = search (left, right, leb-true) depth 12
 
 told-of : (c : Call) → inRange c ≡ true → Plane (c .plane) (eqb (c .plane) 1)
 unfolding inRange
-told-of c h = search (and-l, and-r, plane-of) depth 12
+told-of c h = search (left, right, plane-of) depth 12
 
 held-of : (c : Call) → inRange c ≡ true → Plane (c .kept) (eqb (c .kept) 1)
 unfolding inRange
-held-of c h = search (and-l, and-r, plane-of) depth 12
+held-of c h = search (left, right, plane-of) depth 12
 
 pub clauses : (c : Call) → sound c ≡ true → Clauses c
 unfolding sound timersAgree placesAgree
-clauses c h = search (and-l, and-r, numbers-of, told-of, held-of, agree)
+clauses c h = search (left, right, numbers-of, told-of, held-of, agree)
 
 or-no : (a : Bool) → (a || false) ≡ true → a ≡ true
 or-no true h = refl
@@ -191,7 +177,7 @@ record Fresh (c : Call) : Type 0 where
 
 fresh-of : (c : Call) → asFresh c ≡ true → Fresh c
 unfolding asFresh allStopped
-fresh-of c h = search (and-l, and-r, eqb-true, not-true) depth 20
+fresh-of c h = search (left, right, eqb-true, not-true) depth 20
 
 blank : (i a d q s p k o : ℕ) (t₁ t₂ t₃ t₆ t₈ t₁₀ t₁₁ : Bool) → Fresh (call State.Idle Path.Up i a d q s p k o t₁ t₂ t₃ t₆ t₈ t₁₀ t₁₁)
     → call State.Idle Path.Up i a d q s p k o t₁ t₂ t₃ t₆ t₈ t₁₀ t₁₁ ≡ freshCall
@@ -201,22 +187,22 @@ module _ {i a d q s p k o : ℕ} {t₁ t₂ t₃ t₆ t₈ t₁₀ t₁₁ : Boo
   -- a state and path in which the plane is off and none is kept
   still : {st : State} {w : Path} → At st w (call st w i a d q s 4 4 o t₁ t₂ t₃ (eqb (pathNumber w) 2) t₈ t₁₀ false)
       → (eqb p 4 || false) ≡ true → (eqb k 4 || false) ≡ true → t₁₁ ≡ eqb p 1 → t₆ ≡ eqb (pathNumber w) 2
-      → Situation (call st w i a d q s p k o t₁ t₂ t₃ t₆ t₈ t₁₀ t₁₁)
-  still v h₁ h₂ h₃ h₄ = rw (h₄, h₃, is-four p h₁, is-four k h₂) (at v)
+      → At st w (call st w i a d q s p k o t₁ t₂ t₃ t₆ t₈ t₁₀ t₁₁)
+  still v h₁ h₂ h₃ h₄ = rw (h₄, h₃, is-four p h₁, is-four k h₂) v
 
   seen-up : (st : State) → Clauses (call st Path.Up i a d q s p k o t₁ t₂ t₃ t₆ t₈ t₁₀ t₁₁)
-      → Situation (call st Path.Up i a d q s p k o t₁ t₂ t₃ t₆ t₈ t₁₀ t₁₁)
-  seen-up State.Idle f = rw (blank i a d q s p k o t₁ t₂ t₃ t₆ t₈ t₁₀ t₁₁ (fresh-of _ (f .fresh))) (at idle)
+      → At st Path.Up (call st Path.Up i a d q s p k o t₁ t₂ t₃ t₆ t₈ t₁₀ t₁₁)
+  seen-up State.Idle f = rw (blank i a d q s p k o t₁ t₂ t₃ t₆ t₈ t₁₀ t₁₁ (fresh-of _ (f .fresh))) idle
   seen-up State.MoCallSetup f = still (mo (f .numbers)) (f .off-unless) (f .four-unless) (f .t311) (f .t306)
   seen-up State.MtCallSetup f = still (mt (is-named i (f .named-unless)) (f .numbers)) (f .off-unless) (f .four-unless) (f .t311) (f .t306)
   seen-up State.CallActive f =
-      rw (f .t306, f .t311, is-four k (f .four-unless)) (at (up (is-named i (f .named-unless)) (f .told) (f .numbers)))
+      rw (f .t306, f .t311, is-four k (f .four-unless)) (up (is-named i (f .named-unless)) (f .told) (f .numbers))
   seen-up State.Wait f =
-      rw (f .t306, f .t311, is-four p (f .off-unless)) (at (wait (is-named i (f .named-unless)) (f .held) (f .numbers)))
+      rw (f .t306, f .t311, is-four p (f .off-unless)) (wait (is-named i (f .named-unless)) (f .held) (f .numbers))
   seen-up State.CallDisconnect f = still (disconnect (f .numbers)) (f .off-unless) (f .four-unless) (f .t311) (f .t306)
 
   seen-active : (w : Path) → Clauses (call State.CallActive w i a d q s p k o t₁ t₂ t₃ t₆ t₈ t₁₀ t₁₁)
-      → Situation (call State.CallActive w i a d q s p k o t₁ t₂ t₃ t₆ t₈ t₁₀ t₁₁)
+      → At State.CallActive w (call State.CallActive w i a d q s p k o t₁ t₂ t₃ t₆ t₈ t₁₀ t₁₁)
   seen-active Path.Up f = seen-up State.CallActive f
   seen-active Path.Broken f =
       still (broken (is-named i (f .named-unless)) (f .numbers)) (f .off-unless) (f .four-unless) (f .t311) (f .t306)
@@ -226,13 +212,13 @@ module _ {i a d q s p k o : ℕ} {t₁ t₂ t₃ t₆ t₈ t₁₀ t₁₁ : Boo
   -- the path is up in every other state
   seen-other : (st : State) → eqb (stateNumber st) 3 ≡ false → (w : Path)
       → Clauses (call st w i a d q s p k o t₁ t₂ t₃ t₆ t₈ t₁₀ t₁₁)
-      → Situation (call st w i a d q s p k o t₁ t₂ t₃ t₆ t₈ t₁₀ t₁₁)
+      → At st w (call st w i a d q s p k o t₁ t₂ t₃ t₆ t₈ t₁₀ t₁₁)
   seen-other st h Path.Up f = seen-up st f
   seen-other st h Path.Broken f = absurd (false≢true (rw h at (f .up-unless)))
   seen-other st h Path.Restoring f = absurd (false≢true (rw h at (f .up-unless)))
 
   seen : (st : State) (w : Path) → Clauses (call st w i a d q s p k o t₁ t₂ t₃ t₆ t₈ t₁₀ t₁₁)
-      → Situation (call st w i a d q s p k o t₁ t₂ t₃ t₆ t₈ t₁₀ t₁₁)
+      → At st w (call st w i a d q s p k o t₁ t₂ t₃ t₆ t₈ t₁₀ t₁₁)
   seen State.Idle = seen-other State.Idle refl
   seen State.MoCallSetup = seen-other State.MoCallSetup refl
   seen State.MtCallSetup = seen-other State.MtCallSetup refl
@@ -255,7 +241,7 @@ seven-of (t₁ ∷ t₂ ∷ t₃ ∷ t₆ ∷ t₈ ∷ t₁₀ ∷ []) h = absur
 seven-of (t₁ ∷ t₂ ∷ t₃ ∷ t₆ ∷ t₈ ∷ t₁₀ ∷ t₁₁ ∷ []) h = seven
 seven-of (t₁ ∷ t₂ ∷ t₃ ∷ t₆ ∷ t₈ ∷ t₁₀ ∷ t₁₁ ∷ t ∷ ts) h = absurd (omega arith)
 
-pub situated : (c : Call) → Kept c → Situation c
+pub situated : (c : Call) → Kept c → Situated c
 situated c h = timers (seven-of (c .timers) (h .size)) (clauses c (h .meets))
   where
     with-timers : List Bool → Call
@@ -274,5 +260,5 @@ situated c h = timers (seven-of (c .timers) (h .size)) (clauses c (h .meets))
           timers = ts;
         }
 
-    timers : {ts : List Bool} → Seven ts → Clauses (with-timers ts) → Situation (with-timers ts)
+    timers : {ts : List Bool} → Seven ts → Clauses (with-timers ts) → Situated (with-timers ts)
     timers seven f = seen (c .state) (c .path) f

@@ -8,22 +8,21 @@ use mathlib.Core.Option.{Option, some}
 use native.Mathlib.Omega.{arith}
 use borrow.Author.Tests.{eqb-true, ne-eqb}
 use lib.Dec.{eqb}
-use lib.ListN.{length}
 use Rattle.records.specs.declared.events.Event.{Event}
 use Rattle.records.specs.Tables.{fine}
 use Rattle.records.specs.Events.{events}
 use Rattle.callcontrol.specs.declared.call.State.{State}
 use Rattle.callcontrol.specs.declared.call.Call.{Call}
 use Rattle.callcontrol.specs.declared.draft.Draft.{Draft}
-use Rattle.callcontrol.specs.Call.{freshCall, allStopped, inRange, asFresh, timersAgree, placesAgree, sound}
+use Rattle.callcontrol.specs.Call.{freshCall}
 use Rattle.callcontrol.specs.Rows.{rowFor}
 use Rattle.callcontrol.specs.Orders.{orders}
-use Rattle.callcontrol.specs.Step.{Outcome}
-use Rattle.demands.specs.Runs.{Turn, outcome, next, run, takenBy, messagesOf, writtenBy, listed, takenIn, writtenIn, lastTold, told}
+use Rattle.demands.specs.Runs.{Turn, next, run, takenBy, messagesOf, writtenBy, listed, takenIn, writtenIn, lastTold, told}
 use Rattle.demands.specs.History.{History, atFirst, note, reads, planeByHistory}
-use Rattle.demands.specs.Demands.{Sound, Told, Transmits}
+use Rattle.demands.specs.Demands.{Kept, Told, Transmits}
 use Rattle.demands.proofs.Reading.{read-fine}
-use Rattle.demands.proofs.Answers.{Turned, kept, took, turned}
+use Rattle.demands.proofs.Turns.{Turned, passed, took, turned}
+use Rattle.demands.proofs.Sound.{fresh-is-sound, keeps-sound, always}
 use Rattle.demands.proofs.Places.{plane-some, plane-on}
 use Rattle.demands.proofs.Drawn.{Tells, silent, loud, lastTold-append, orders-tell}
 use Rattle.demands.proofs.Follows.{Fits, Agrees, Lands, follows}
@@ -50,65 +49,50 @@ unfolding reads
 reads-append h [] b = refl
 reads-append h (e ∷ a) b = reads-append (note h e) a b
 
--- what every record of a run meets
-abbrev pub Good : Call → Type 0
-Good c = (sound c ≡ true) × (length (c .timers) ≡ 7)
-
-fresh-good : Good freshCall
-unfolding sound inRange asFresh allStopped timersAgree placesAgree
-fresh-good = (refl, refl)
-
--- every step from a good record gives a good one
-abbrev pub Keeps : Type 0
-Keeps = (c : Call) (e : Event) → length (c .timers) ≡ 7 → sound c ≡ true → fine events e ≡ true → rowFor c e .taken ≡ true → (sound (rowFor c e .call) ≡ true) × (length (rowFor c e .call .timers) ≡ 7)
-
 -- what a turn leaves
 record Left (c : Call) (h : History) (next : Call) (taken : Option Event) : Type 0 where
-  good : Good next
+  kept : Kept next
   agrees : Agrees next (reads h (listed taken))
   tells : lastTold (c .plane) (messagesOf c taken) ≡ next .plane
 
-next-is : (c : Call) (t : Turn) {o : Outcome} → outcome c t ≡ o → next c t ≡ o .call
-unfolding next
-next-is c t g = ap (λ o. o .call) g
+row-left : (c : Call) (h : History) (e : Event) → Kept c → Agrees c h → fine events e ≡ true → rowFor c e .taken ≡ true → Left c h (rowFor c e .call) (some e)
+unfolding reads
+row-left c h e kept agrees fit row =
+    let l : Lands c (note h e) (rowFor c e) = follows c h (kept .meets) agrees e fit row in
+    let now : Kept (rowFor c e .call) = keeps-sound c e kept fit in
+    record { kept = now; agrees = l .agrees; tells = row-tells l (plane-some (rowFor c e .call) (now .meets)) }
 
-module _ (keeps : Keeps) where
-  row-left : (c : Call) (h : History) (e : Event) → Good c → Agrees c h → fine events e ≡ true → rowFor c e .taken ≡ true → Left c h (rowFor c e .call) (some e)
-  unfolding reads
-  row-left c h e good agrees fit row =
-      let l : Lands c (note h e) (rowFor c e) = follows c h (good .0) agrees e fit row in
-      let now : Good (rowFor c e .call) = keeps c e (good .1) (good .0) fit row in
-      record { good = now; agrees = l .agrees; tells = row-tells l (plane-some (rowFor c e .call) (now .0)) }
+turn-left : (c : Call) (h : History) (t : Turn) → Kept c → Agrees c h → Turned c t → Left c h (next c t) (takenBy c t)
+unfolding reads lastTold
+turn-left c h t kept agrees (passed p) = rw (p .leaves, p .takes) (record { kept = kept; agrees = agrees; tells = refl })
+turn-left c h t kept agrees (took e a) = rw (a .leaves, a .takes) (row-left c h e kept agrees (read-fine (t .event) e (a .reads)) (a .row))
 
-  turn-left : (c : Call) (h : History) (t : Turn) → Good c → Agrees c h → Turned c t → Left c h (next c t) (takenBy c t)
-  unfolding reads lastTold
-  turn-left c h t good agrees (kept n z g k) = rw (next-is c t g, k) (record { good = good; agrees = agrees; tells = refl })
-  turn-left c h t good agrees (took e a) = rw (next-is c t (a .gives), a .takes) (row-left c h e good agrees (read-fine (t .event) e (a .reads)) (a .row))
+run-tells : (ts : List Turn) (c : Call) (h : History) → Kept c → Agrees c h → (lastTold (c .plane) (writtenIn c ts) ≡ run c ts .plane) × (run c ts .plane ≡ reads h (takenIn c ts) .plane)
+unfolding run takenIn writtenIn writtenBy reads lastTold
+run-tells [] c h kept agrees = (refl, fits-plane (c .state) (c .plane) (c .mode) (c .kept) h agrees)
+run-tells (t ∷ ts) c h kept agrees =
+    let l : Left c h (next c t) (takenBy c t) = turn-left c h t kept agrees (turned c t) in
+    let rest : (lastTold (next c t .plane) (writtenIn (next c t) ts) ≡ run (next c t) ts .plane) × (run (next c t) ts .plane ≡ reads (reads h (listed (takenBy c t))) (takenIn (next c t) ts) .plane)
+    = run-tells ts (next c t) (reads h (listed (takenBy c t))) (l .kept) (l .agrees) in (
+      lastTold-append (c .plane) (messagesOf c (takenBy c t)) (writtenIn (next c t) ts) ∙ ap (λ p. lastTold p (writtenIn (next c t) ts)) (l .tells) ∙ rest .0,
+      rest .1 ∙ ap (λ x. x .plane) (sym (reads-append h (listed (takenBy c t)) (takenIn (next c t) ts))),
+    )
 
-  run-tells : (ts : List Turn) (c : Call) (h : History) → Good c → Agrees c h → (lastTold (c .plane) (writtenIn c ts) ≡ run c ts .plane) × (run c ts .plane ≡ reads h (takenIn c ts) .plane)
-  unfolding run takenIn writtenIn writtenBy reads lastTold
-  run-tells [] c h good agrees = (refl, fits-plane (c .state) (c .plane) (c .mode) (c .kept) h agrees)
-  run-tells (t ∷ ts) c h good agrees =
-      let l : Left c h (next c t) (takenBy c t) = turn-left c h t good agrees (turned c t) in
-      let rest : (lastTold (next c t .plane) (writtenIn (next c t) ts) ≡ run (next c t) ts .plane) × (run (next c t) ts .plane ≡ reads (reads h (listed (takenBy c t))) (takenIn (next c t) ts) .plane)
-      = run-tells ts (next c t) (reads h (listed (takenBy c t))) (l .good) (l .agrees) in (
-        lastTold-append (c .plane) (messagesOf c (takenBy c t)) (writtenIn (next c t) ts) ∙ ap (λ p. lastTold p (writtenIn (next c t) ts)) (l .tells) ∙ rest .0,
-        rest .1 ∙ ap (λ x. x .plane) (sym (reads-append h (listed (takenBy c t)) (takenIn (next c t) ts))),
-      )
+pub told-by-history : Told
+unfolding told planeByHistory
+told-by-history ts =
+    let r : (lastTold 4 (writtenIn freshCall ts) ≡ run freshCall ts .plane) × (run freshCall ts .plane ≡ reads atFirst (takenIn freshCall ts) .plane)
+    = run-tells ts freshCall atFirst fresh-is-sound refl in
+    (r .0 ∙ r .1, r .0)
 
-  pub told-by-history : Told
-  unfolding told planeByHistory
-  told-by-history ts =
-      let r : (lastTold 4 (writtenIn freshCall ts) ≡ run freshCall ts .plane) × (run freshCall ts .plane ≡ reads atFirst (takenIn freshCall ts) .plane)
-      = run-tells ts freshCall atFirst fresh-good refl in
-      (r .0 ∙ r .1, r .0)
+pub told-is-plane : (ts : List Turn) → told ts ≡ run freshCall ts .plane
+told-is-plane ts = told-by-history ts .1
 
 -- neither of the two planes that transmit is off
 transmitting : (p : ℕ) (one : Bool) → eqb p 1 ≡ one → (one || eqb p 3) ≡ true → eqb p 4 ≡ false
 transmitting p true e h = rw (eqb-true p 1 e)
 transmitting p false e h = rw (eqb-true p 3 h)
 
-pub transmits : Told → Sound → Transmits
-transmits by-history run-sound ts on =
-    let plane : told ts ≡ run freshCall ts .plane = by-history ts .1 in
-    plane-on (run freshCall ts) (run-sound ts) (rw plane at (transmitting (told ts) (eqb (told ts) 1) refl on))
+pub transmits : Transmits
+transmits ts on =
+    plane-on (run freshCall ts) (always ts .meets) (rw (told-is-plane ts) at (transmitting (told ts) (eqb (told ts) 1) refl on))

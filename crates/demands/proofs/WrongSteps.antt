@@ -1,7 +1,7 @@
 -- None of the five steps that the paper names meets the promise of the step: on an input written out here each gives something else.
 use Prim.Native.Nat.{ℕ}
 use mathlib.Core.Path.{_≡_, refl, sym, _∙_, ap}
-use mathlib.Core.List.{List, []}
+use mathlib.Core.List.{[]}
 use native.Mathlib.Omega.{arith}
 use lib.ListN.{replicate}
 use Rattle.records.specs.Letters.{within}
@@ -9,7 +9,6 @@ use Rattle.records.specs.Bytes.{number, bytes}
 use Rattle.records.specs.Bodies.{valueAt, valuesAt, kindIn, bodyOf, bodyBytes, flatSize, flatBytes}
 use Rattle.records.specs.Tables.{readBody, readAs, read}
 use Rattle.records.specs.Messages.{messageBytes}
-use Rattle.callcontrol.specs.declared.call.Call.{Call}
 use Rattle.callcontrol.specs.Call.{freshCall, allStopped, inRange, asFresh, timersAgree, placesAgree, sound}
 use Rattle.callcontrol.specs.Draft.{draft, go, storeAddress, storeMode, storeAsked, start, say}
 use Rattle.callcontrol.specs.Rows.{idle, inState, rowFor}
