@@ -5,12 +5,11 @@ use mathlib.Core.Path.{_≡_, refl, sym, _∙_, ap}
 use mathlib.Core.Bool.{Bool, true, false, cond, not}
 use mathlib.Core.List.{List}
 use mathlib.Core.Option.{some}
-use lib.Dec.{leb, eqb}
+use lib.Dec.{leb}
 use lib.ListN.{length}
 use Rattle.records.specs.declared.events.Event.{Event}
-use Rattle.records.specs.Tables.{Read, taken, refused, read, fine}
+use Rattle.records.specs.Tables.{Read, read}
 use Rattle.records.specs.Events.{events}
-use Rattle.records.proofs.Tables.{event-lawful}
 use Rattle.callcontrol.specs.declared.call.Call.{Call}
 use Rattle.callcontrol.specs.declared.draft.Draft.{Draft}
 use Rattle.callcontrol.specs.Call.{sound}
@@ -18,15 +17,11 @@ use Rattle.callcontrol.specs.Rows.{rowFor}
 use Rattle.callcontrol.specs.Orders.{orders, bytesOf}
 use Rattle.callcontrol.specs.Step.{Outcome, refusal, otherCall, carried, decided, whenRead, stepOf}
 use Rattle.demands.specs.Runs.{Turn, outcome, takenBy, writtenBy}
-use Rattle.demands.specs.Demands.{refusedWith, ofEvent, applies, Answered, Refused, Zero, Taken}
-use Rattle.demands.proofs.Reading.{Each, read-each}
+use Rattle.demands.specs.Demands.{wrongLength, noKind, badBody, ofEvent, applies, Answered, Refused, Zero, Taken}
+use Rattle.demands.proofs.Reading.{Reads, bad-length, no-kind, bad-body, is, reads}
 use Rattle.demands.proofs.Turns.{byTests, Accepted, Turned, passed, took, turned, accepts}
 
 -- ---- the lowest answer
-
--- a reader's refusal is the lowest of 2, 3 and 4 that applies
-abbrev Known : ℕ → Type 0
-Known n = cond (eqb 2 n) 2 (cond (eqb 3 n) 3 (cond (eqb 4 n) 4 0)) ≡ n
 
 module _ (c : Call) (buffer : List ℕ) where
   event-answered : (other row room : Bool) (d : Draft) → byTests other row room c d buffer .answer ≡ cond other 5 (cond (not row) 6 (cond (not room) 7 0))
@@ -35,24 +30,26 @@ module _ (c : Call) (buffer : List ℕ) where
   event-answered false true false d = refl
   event-answered false true true d = refl
 
-  step-answered : (ok : Bool) (r : Read Event) → Each (λ e. fine events e ≡ true) Known r →
+  step-answered : (ok : Bool) (s : List ℕ) (r : Read Event) → Reads s r →
       cond ok (whenRead r c buffer) (refusal 1 c buffer) .answer
       ≡ cond (not ok) 1
-      (cond (refusedWith 2 r) 2
-      (cond (refusedWith 3 r) 3
-      (cond (refusedWith 4 r) 4
+      (cond (wrongLength s) 2
+      (cond (noKind s) 3
+      (cond (badBody s) 4
       (cond (ofEvent (λ e. otherCall c e) r) 5
       (cond (ofEvent (λ e. not (rowFor c e .taken)) r) 6
       (cond (ofEvent (λ e. not (leb (length (bytesOf (orders (rowFor c e)))) (length buffer))) r) 7 0))))))
   unfolding decided carried
-  step-answered false r known = refl
-  step-answered true (taken e) known = event-answered (otherCall c e) (rowFor c e .taken) (leb (length (bytesOf (orders (rowFor c e)))) (length buffer)) (rowFor c e)
-  step-answered true (refused n) known = sym known
+  step-answered false s r v = refl
+  step-answered true s r (bad-length l) = rw l
+  step-answered true s r (no-kind l k) = rw (l, k)
+  step-answered true s r (bad-body l k b) = rw (l, k, b)
+  step-answered true s r (is {e} l k b f) =
+      rw (l, k, b) (event-answered (otherCall c e) (rowFor c e .taken) (leb (length (bytesOf (orders (rowFor c e)))) (length buffer)) (rowFor c e))
 
 pub answered : Answered
 unfolding stepOf applies
-answered c bytes buffer =
-    step-answered c buffer (sound c) (read events bytes) (read-each events event-lawful Known refl refl refl bytes)
+answered c bytes buffer = step-answered c buffer (sound c) bytes (read events bytes) (reads bytes)
 
 -- ---- a refusal gives the record back
 

@@ -16,6 +16,8 @@ use Rattle.demands.proofs.Told as Told
 use Rattle.demands.proofs.Ended as Ended
 use Rattle.demands.proofs.Cut as Cut
 use Rattle.demands.proofs.WrittenInRange as WrittenInRange
+use Rattle.demands.proofs.ReadsBack as ReadsBack
+use Rattle.demands.proofs.Identified as Identified
 
 -- ---- demand 1
 
@@ -67,8 +69,14 @@ zero-is-taken = Answers.zero-is-taken
 pub taken-gives : claims.Taken
 taken-gives = Answers.taken-gives
 
+pub step-in-range : claims.StepInRange
+step-in-range = WrittenInRange.step-in-range
+
 pub written-in-range : claims.WrittenInRange
 written-in-range = WrittenInRange.written-in-range
+
+pub reads-back : claims.ReadsBack
+reads-back = ReadsBack.reads-back
 
 -- ---- demand 3
 
@@ -95,5 +103,8 @@ no-other-end = Ended.no-other-end
 pub idle-is-fresh : claims.IdleIsFresh
 idle-is-fresh = Ended.idle-is-fresh
 
+pub identified : claims.Identified
+identified = Identified.identified
+
 pub transmits : claims.Transmits
-transmits = Told.transmits
+transmits = Identified.transmits

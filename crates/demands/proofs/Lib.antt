@@ -8,9 +8,11 @@ pub mod Ended
 pub mod Examples
 pub mod Facts
 pub mod Follows
+pub mod Identified
 pub mod Places
 pub mod Ranges
 pub mod Reading
+pub mod ReadsBack
 pub mod Situations
 pub mod Sound
 pub mod Told

@@ -1,61 +1,102 @@
--- What reading by a table gives, whatever the bytes: a value whose fields are in range, or one of the refusals 2, 3 and 4.
+-- What reading an event gives, whatever the bytes: 2, 3 or 4, each where its own test applies and none below it does; or an event whose
+-- fields are in range, where none of the three applies.
 use Prim.Native.Nat.{ℕ, _+_}
-use mathlib.Core.Path.{_≡_, refl, sym, _∙_, ap}
-use mathlib.Core.Bool.{Bool, true, false, cond}
-use mathlib.Core.List.{List}
+use mathlib.Core.Path.{_≡_, refl, ap}
+use mathlib.Core.Bool.{Bool, true, false, cond, not, _&&_}
+use mathlib.Core.List.{List, [], _∷_, map}
 use mathlib.Core.Option.{Option, none, some}
-use lib.Dec.{eqb}
+use native.Mathlib.Omega.{arith}
+use lib.Dec.{leb, eqb}
 use lib.ListN.{length}
-use Rattle.records.specs.Bodies.{Values, kindIn, bodyOf, size, numbersAt, allFit, flatFits}
-use Rattle.records.specs.Tables.{Table, Read, taken, refused, orRefuse, find, readBody, readAs, read, flat, fine}
-use Rattle.records.specs.Laws.{Lawful}
-use Rattle.records.specs.Events.{events}
 use Rattle.records.specs.declared.events.Event.{Event}
+use Rattle.records.specs.Bytes.{number}
+use Rattle.records.specs.Bodies.{Values, kindIn, bodyOf, size, numbersAt, allFit, flatFits}
+use Rattle.records.specs.Tables.{Read, taken, refused, orRefuse, find, readBody, readAs, read, flat, fine}
+use Rattle.records.specs.Laws.{missing}
+use Rattle.records.specs.Events.{EventKind, eventRow, eventKinds, eventOf, events}
 use Rattle.records.proofs.Laws.{values-numbers}
 use Rattle.records.proofs.Tables.{event-lawful}
+use Rattle.demands.specs.Demands.{wrongLength, noKind, bodyFits, badBody}
 
--- what holds of a value that was read, or of the number of the refusal
-abbrev pub Each : {A : Type 0} → (A → Type 0) → (ℕ → Type 0) → Read A → Type 0
-Each P Q (taken v) = P v
-Each P Q (refused n) = Q n
+pub data Reads (s : List ℕ) : Read Event → Type 0 where
+  bad-length : wrongLength s ≡ true → Reads s (refused 2)
+  no-kind : wrongLength s ≡ false → noKind s ≡ true → Reads s (refused 3)
+  bad-body : wrongLength s ≡ false → noKind s ≡ false → badBody s ≡ true → Reads s (refused 4)
+  is : {e : Event} → wrongLength s ≡ false → noKind s ≡ false → badBody s ≡ false → fine events e ≡ true → Reads s (taken e)
 
--- the option's value is kept with where it came from
-or-each : {A B : Type 0} (P : B → Type 0) (Q : ℕ → Type 0) (n : ℕ) (o : Option A) (f : A → Read B) → Q n → ((a : A) → o ≡ some a → Each P Q (f a)) → Each P Q (orRefuse n o f)
-or-each P Q n none f q each = q
-or-each P Q n (some a) f q each = each a refl
+-- ---- 3: a number that no line has leads to no kind
 
-cond-each : {B : Type 0} (P : B → Type 0) (Q : ℕ → Type 0) (b : Bool) (v : B) (n : ℕ) → Q n → (b ≡ true → P v) → Each P Q (cond b (taken v) (refused n))
-cond-each P Q true v n q p = p refl
-cond-each P Q false v n q p = q
+abbrev missed : Option EventKind → Bool
+missed none = true
+missed (some k) = false
 
--- values that were found are in range
-in-range : {A : Type 0} (p : A → Bool) (size : Bool) (b : Bool) (x v : A) → p x ≡ b → cond size (cond b (some x) none) none ≡ some v → p v ≡ true
-in-range p true true x v e h = let same : x ≡ v = cc in ap p (sym same) ∙ e
-in-range p true false x v e h = cc
-in-range p false b x v e h = cc
+finds : (n : ℕ) (ks : List EventKind) → missing n (map (λ k. eventRow k .number) ks) ≡ missed (find events n ks)
+finds n [] = refl
+finds n (k ∷ ks) = at-first (eqb n (eventRow k .number)) (find events n ks) (finds n ks)
+  where
+    at-first : (b : Bool) {m : Bool} (o : Option EventKind) → m ≡ missed o → (not b && m) ≡ missed (cond b (some k) o)
+    at-first true o rest = refl
+    at-first false o rest = rest
 
-module _ (t : Table) (lawful : Lawful t) where
-  body-fits : (k : t .Kind) (s : List ℕ) (vs : Values (t .rowOf k .letters)) → bodyOf (t .rowOf k .letters) s ≡ some vs → allFit (t .rowOf k .letters) vs ≡ true
-  unfolding bodyOf
-  body-fits k s vs h =
-      in-range (allFit (t .rowOf k .letters)) (eqb (length s) (4 + size (t .rowOf k .letters))) _ (numbersAt (t .rowOf k .letters) s 4) vs refl
-      (rw (values-numbers (t .rowOf k .letters) s 4) at h)
+-- ---- 4: a body that fits is read as its numbers
 
-  value-fine : (k : t .Kind) (vs : Values (t .rowOf k .letters)) → allFit (t .rowOf k .letters) vs ≡ true → t .agrees (t .valueOf k vs) ≡ true → fine t (t .valueOf k vs) ≡ true
-  unfolding fine flatFits
-  value-fine k vs fit agrees =
-      let same : allFit (flat t (t .valueOf k vs) .letters) (flat t (t .valueOf k vs) .values) ≡ allFit (t .rowOf k .letters) vs
-      = ap (λ (kv : (k : t .Kind) × Values (t .rowOf k .letters)). allFit (t .rowOf (kv .0) .letters) (kv .1)) (lawful .together k vs) in
-      rw (same, fit) agrees
+-- an event made of values that fit is in range
+value-fine : (k : EventKind) (vs : Values (eventRow k .letters)) → allFit (eventRow k .letters) vs ≡ true → fine events (eventOf k vs) ≡ true
+unfolding fine flatFits
+value-fine k vs fit =
+    let same : allFit (flat events (eventOf k vs) .letters) (flat events (eventOf k vs) .values) ≡ allFit (eventRow k .letters) vs
+    = ap (λ (kv : (k : EventKind) × Values (eventRow k .letters)). allFit (eventRow (kv .0) .letters) (kv .1)) (event-lawful .together k vs) in
+    rw (same, fit)
 
-  pub read-each : (Q : ℕ → Type 0) → Q 2 → Q 3 → Q 4 → (s : List ℕ) → Each (λ v. fine t v ≡ true) Q (read t s)
-  unfolding read readAs readBody
-  read-each Q q₂ q₃ q₄ s =
-      or-each _ Q 2 (kindIn s) _ q₂
-      (λ n a. or-each _ Q 3 (find t n (t .kinds)) _ q₃
-      (λ k b. or-each _ Q 4 (bodyOf (t .rowOf k .letters) s) _ q₄
-      (λ vs d. cond-each _ Q _ _ 4 q₄ (value-fine k vs (body-fits k s vs d)))))
+module _ (s : List ℕ) (lengthy : wrongLength s ≡ false) where
+  in-body : (k : EventKind) → find events (number 2 s 2) eventKinds ≡ some k → noKind s ≡ false → Reads s (readBody events k s)
+  unfolding readBody bodyOf badBody bodyFits
+  in-body k h known = rw (values-numbers (eventRow k .letters) s 4) (sized (eqb (length s) (4 + size (eventRow k .letters))) (allFit (eventRow k .letters) vs) refl refl)
+    where
+      vs : Values (eventRow k .letters)
+      vs = numbersAt (eventRow k .letters) s 4
+
+      tested : {a b : Bool} → eqb (length s) (4 + size (eventRow k .letters)) ≡ a → allFit (eventRow k .letters) vs ≡ b → badBody s ≡ not (a && b)
+      tested p q = rw (h, p, q)
+
+      sized : (a b : Bool) → eqb (length s) (4 + size (eventRow k .letters)) ≡ a → allFit (eventRow k .letters) vs ≡ b
+          → Reads s (orRefuse 4 (cond a (cond b (some vs) none) none) (λ vs. taken (eventOf k vs)))
+      sized false b p q = bad-body lengthy known (tested p q)
+      sized true false p q = bad-body lengthy known (tested p q)
+      sized true true p q = is lengthy known (tested p q) (value-fine k vs q)
+
+  in-kind : (o : Option EventKind) → find events (number 2 s 2) eventKinds ≡ o → Reads s (orRefuse 3 o (λ k. readBody events k s))
+  unfolding noKind
+  in-kind none h = no-kind lengthy (rw h at (finds (number 2 s 2) eventKinds))
+  in-kind (some k) h = in-body k h (rw h at (finds (number 2 s 2) eventKinds))
+
+pub reads : (s : List ℕ) → Reads s (read events s)
+unfolding read readAs kindIn wrongLength
+reads s = long (leb 4 (length s)) (eqb (number 2 s 0) (length s)) refl refl
+  where
+    tested : {a b : Bool} → leb 4 (length s) ≡ a → eqb (number 2 s 0) (length s) ≡ b → wrongLength s ≡ not (a && b)
+    tested p q = rw (p, q)
+
+    long : (a b : Bool) → leb 4 (length s) ≡ a → eqb (number 2 s 0) (length s) ≡ b
+        → Reads s (orRefuse 2 (cond a (cond b (some (number 2 s 2)) none) none) (λ n. readAs events n s))
+    long false b p q = bad-length (tested p q)
+    long true false p q = bad-length (tested p q)
+    long true true p q = in-kind s (tested p q) (find events (number 2 s 2) eventKinds) refl
+
+-- ---- what follows
 
 -- an event that was read is in range
 pub read-fine : (s : List ℕ) (e : Event) → read events s ≡ taken e → fine events e ≡ true
-read-fine s e h = rw h at (read-each events event-lawful (λ n. Unit {0}) tt tt tt s)
+read-fine s e h = in-range (rw h at (reads s))
+  where
+    in-range : Reads s (taken e) → fine events e ≡ true
+    in-range (is l k b f) = f
+
+-- no reader refuses with 0
+pub refusal-number : (n : ℕ) (s : List ℕ) → read events s ≡ refused n → n ≡ 0 → ⊥
+refusal-number n s h = other (rw h at (reads s))
+  where
+    other : {m : ℕ} → Reads s (refused m) → m ≡ 0 → ⊥
+    other (bad-length l) z = omega arith
+    other (no-kind l k) z = omega arith
+    other (bad-body l k b) z = omega arith

@@ -1,12 +1,12 @@
 -- What the lower layers were last told in a run is what the history rule reads from the taken events alone, and is the plane of the
--- record. So a set transmits only in a call that is active, with its path up and with its identifier.
+-- record.
 use Prim.Native.Nat.{ℕ, _≤_}
 use mathlib.Core.Path.{_≡_, refl, sym, _∙_, ap}
-use mathlib.Core.Bool.{Bool, true, false, cond, _||_}
+use mathlib.Core.Bool.{true, false, cond}
 use mathlib.Core.List.{List, [], _∷_, _++_}
 use mathlib.Core.Option.{Option, some}
 use native.Mathlib.Omega.{arith}
-use borrow.Author.Tests.{eqb-true, ne-eqb}
+use borrow.Author.Tests.{ne-eqb}
 use lib.Dec.{eqb}
 use Rattle.records.specs.declared.events.Event.{Event}
 use Rattle.records.specs.Tables.{fine}
@@ -19,11 +19,11 @@ use Rattle.callcontrol.specs.Rows.{rowFor}
 use Rattle.callcontrol.specs.Orders.{orders}
 use Rattle.demands.specs.Runs.{Turn, next, run, takenBy, messagesOf, writtenBy, listed, takenIn, writtenIn, lastTold, told}
 use Rattle.demands.specs.History.{History, atFirst, note, reads, planeByHistory}
-use Rattle.demands.specs.Demands.{Kept, Told, Transmits}
+use Rattle.demands.specs.Demands.{Kept, Told}
 use Rattle.demands.proofs.Reading.{read-fine}
 use Rattle.demands.proofs.Turns.{Turned, passed, took, turned}
-use Rattle.demands.proofs.Sound.{fresh-is-sound, keeps-sound, always}
-use Rattle.demands.proofs.Places.{plane-some, plane-on}
+use Rattle.demands.proofs.Sound.{fresh-is-sound, keeps-sound}
+use Rattle.demands.proofs.Places.{plane-some}
 use Rattle.demands.proofs.Drawn.{Tells, silent, loud, lastTold-append, orders-tell}
 use Rattle.demands.proofs.Follows.{Fits, Agrees, Lands, follows}
 
@@ -87,12 +87,3 @@ told-by-history ts =
 
 pub told-is-plane : (ts : List Turn) → told ts ≡ run freshCall ts .plane
 told-is-plane ts = told-by-history ts .1
-
--- neither of the two planes that transmit is off
-transmitting : (p : ℕ) (one : Bool) → eqb p 1 ≡ one → (one || eqb p 3) ≡ true → eqb p 4 ≡ false
-transmitting p true e h = rw (eqb-true p 1 e)
-transmitting p false e h = rw (eqb-true p 3 h)
-
-pub transmits : Transmits
-transmits ts on =
-    plane-on (run freshCall ts) (always ts .meets) (rw (told-is-plane ts) at (transmitting (told ts) (eqb (told ts) 1) refl on))

@@ -1,16 +1,20 @@
 -- What the client bought: the three demands over every run, as types. proofs/Demands.antt has a proof of each.
-use Prim.Native.Nat.{ℕ}
+use Prim.Native.Nat.{ℕ, _+_}
 use mathlib.Core.Path.{_≡_}
 use mathlib.Core.Bool.{Bool, true, false, cond, not, _&&_, _||_}
 use mathlib.Core.List.{List, [], _∷_, _++_}
 use mathlib.Core.Option.{Option, none, some}
 use lib.Dec.{leb, eqb}
-use lib.ListN.{length}
+use lib.ListN.{length, take, drop}
 use lib.Seq.{sets}
 use Rattle.records.specs.declared.events.Event.{Event}
 use Rattle.records.specs.declared.events.Event.the-variants.{SetupRequest, SetupResponse, ReleaseRequest, TxRequest, ModifyRequest, DCallProceeding, DAlert, DConnect, DConnectAcknowledge, DSetup, DInfo, DTxGranted, DTxCeased, DTxInterrupt, DTxWait, DTxContinue, DCallRestore, DDisconnect, DRelease, ReportSent, ReportFailed, Break, Resume, Expiry}
-use Rattle.records.specs.Tables.{Read, taken, refused, read, fine}
-use Rattle.records.specs.Events.{events}
+use Rattle.records.specs.declared.messages.Message.{Message}
+use Rattle.records.specs.Bytes.{number}
+use Rattle.records.specs.Bodies.{size, numbersAt, allFit}
+use Rattle.records.specs.Tables.{Read, taken, refused, find, read, fine}
+use Rattle.records.specs.Laws.{missing, numbers}
+use Rattle.records.specs.Events.{EventKind, eventRow, events}
 use Rattle.records.specs.Messages.{messages}
 use Rattle.callcontrol.specs.declared.call.State.{State}
 use Rattle.callcontrol.specs.declared.call.Path.{Path}
@@ -20,27 +24,45 @@ use Rattle.callcontrol.specs.Rows.{rowFor}
 use Rattle.callcontrol.specs.Orders.{orders, bytesOf}
 use Rattle.callcontrol.specs.Step.{refusal, stepOf, otherCall}
 use Rattle.demands.specs.Runs.{Turn, outcome, next, run, takenBy, takenIn, writtenBy, writtenIn, every?, told, ends}
-use Rattle.demands.specs.History.{planeByHistory}
+use Rattle.demands.specs.History.{planeByHistory, idByHistory}
 
 -- Demand 1: every turn gets an answer; the lowest number that applies; a refusal writes no byte and gives the record back
 
-abbrev pub refusedWith : ℕ → Read Event → Bool
-refusedWith n (taken e) = false
-refusedWith n (refused m) = eqb n m
+-- 2: under 4 bytes, or a length field that differs from the bytes
+unfoldable pub wrongLength : List ℕ → Bool
+wrongLength bytes = not (leb 4 (length bytes) && eqb (number 2 bytes 0) (length bytes))
+
+-- 3: the kind's number stands in no line of the table of events
+unfoldable pub noKind : List ℕ → Bool
+noKind bytes = missing (number 2 bytes 2) (numbers events)
+
+-- 4: the body has not the size of the kind's letters, or a field is out of its letter's range
+unfoldable pub bodyFits : EventKind → List ℕ → Bool
+bodyFits k bytes =
+    eqb (length bytes) (4 + size (eventRow k .letters)) && allFit (eventRow k .letters) (numbersAt (eventRow k .letters) bytes 4)
+
+abbrev pub ofKind : (EventKind → Bool) → Option EventKind → Bool
+ofKind p none = false
+ofKind p (some k) = p k
+
+unfoldable pub badBody : List ℕ → Bool
+badBody bytes = ofKind (λ k. not (bodyFits k bytes)) (find events (number 2 bytes 2) (events .kinds))
 
 abbrev pub ofEvent : (Event → Bool) → Read Event → Bool
 ofEvent p (taken e) = p e
 ofEvent p (refused m) = false
 
--- where each answer of the paper's table applies. 2, 3 and 4 are the reader's, which gives the lowest of the three; each of the others is
--- told without a look at those below it
+-- where each answer of the paper's table applies, each told without a look at those below it; 5, 6 and 7 speak of an event, so of bytes
+-- that are one
 unfoldable pub applies : ℕ → Call → List ℕ → List ℕ → Bool
 applies n c bytes buffer =
     cond (eqb n 1) (not (sound c))
+    (cond (eqb n 2) (wrongLength bytes)
+    (cond (eqb n 3) (noKind bytes)
+    (cond (eqb n 4) (badBody bytes)
     (cond (eqb n 5) (ofEvent (λ e. otherCall c e) (read events bytes))
     (cond (eqb n 6) (ofEvent (λ e. not (rowFor c e .taken)) (read events bytes))
-    (cond (eqb n 7) (ofEvent (λ e. not (leb (length (bytesOf (orders (rowFor c e)))) (length buffer))) (read events bytes))
-    (refusedWith n (read events bytes)))))
+    (cond (eqb n 7) (ofEvent (λ e. not (leb (length (bytesOf (orders (rowFor c e)))) (length buffer))) (read events bytes)) false))))))
 
 -- the first of some numbers that applies, 0 if none does
 abbrev pub first : (ℕ → Bool) → List ℕ → ℕ
@@ -103,9 +125,22 @@ Taken =
     × (outcome c t .count ≡ length (bytesOf (writtenBy c t)))
     × (outcome c t .buffer ≡ sets (t .buffer) 0 (bytesOf (writtenBy c t)))
 
--- every message that a run writes is in range, and so one that the reader of messages takes (records, Laws)
+-- every message that a step from a sound record writes has each field in its range, and so every message of a run
+abbrev pub StepInRange : Type 0
+StepInRange = (c : Call) (t : Turn) → Kept c → every? (λ m. fine messages m) (writtenBy c t) ≡ true
+
 abbrev pub WrittenInRange : Type 0
 WrittenInRange = (ts : List Turn) → every? (λ m. fine messages m) (writtenIn freshCall ts) ≡ true
+
+-- some bytes are, record after record, some messages: as many bytes as the length at the front says are read as the first, the rest as
+-- the others
+abbrev pub Reads : List ℕ → List Message → Type 0
+Reads bytes [] = bytes ≡ []
+Reads bytes (m ∷ ms) = (read messages (take (number 2 bytes 0) bytes) ≡ taken m) × Reads (drop (number 2 bytes 0) bytes) ms
+
+-- what a step from a sound record writes reads back: the bytes that it counts, of the buffer that it leaves, are the messages of its row
+abbrev pub ReadsBack : Type 0
+ReadsBack = (c : Call) (t : Turn) → Kept c → Reads (take (outcome c t .count) (outcome c t .buffer)) (writtenBy c t)
 
 -- Demand 3, told: what the lower layers were last told is what the history rule reads from the taken events alone, and is the plane of the record
 
@@ -195,9 +230,16 @@ NoOtherEnd =
 abbrev pub IdleIsFresh : Type 0
 IdleIsFresh = (ts : List Turn) → isIdle (run freshCall ts) ≡ true → run freshCall ts ≡ freshCall
 
--- a set transmits (told 1 or 3) only in CALL-ACTIVE with path up, and with the identifier of the call it is in
+-- outside IDLE the identifier is the one that the network gave to the call, by the taken events alone
+abbrev pub Identified : Type 0
+Identified = (ts : List Turn) → isIdle (run freshCall ts) ≡ false → run freshCall ts .id ≡ idByHistory (takenIn freshCall ts)
+
+-- a set transmits (told 1 or 3) only in CALL-ACTIVE with path up, and with the identifier that the network gave to the call it is in
 abbrev pub Transmits : Type 0
 Transmits =
     (ts : List Turn) →
     (eqb (told ts) 1 || eqb (told ts) 3) ≡ true →
-    (run freshCall ts .state ≡ State.CallActive) × (run freshCall ts .path ≡ Path.Up) × (run freshCall ts .id ≡ 0 → ⊥)
+    (run freshCall ts .state ≡ State.CallActive)
+    × (run freshCall ts .path ≡ Path.Up)
+    × (run freshCall ts .id ≡ idByHistory (takenIn freshCall ts))
+    × (run freshCall ts .id ≡ 0 → ⊥)

@@ -1,4 +1,4 @@
--- The plane by history: read from the taken events alone. It looks at no record and at no row.
+-- The plane by history, and the identifier: read from the taken events alone. They look at no record and at no row.
 use Prim.Native.Nat.{ℕ}
 use mathlib.Core.Bool.{cond, _&&_}
 use mathlib.Core.List.{List, [], _∷_}
@@ -59,3 +59,38 @@ reads h (e ∷ es) = reads (note h e) es
 -- the plane that the rule reads from some taken events
 unfoldable pub planeByHistory : List Event → ℕ
 planeByHistory es = reads atFirst es .plane
+
+-- the identifier that the network has given to the call: a call that this side begins has none at first
+unfoldable pub noteId : ℕ → Event → ℕ
+noteId h (SetupRequest a d q) = 0
+noteId h SetupResponse = h
+noteId h ReleaseRequest = h
+noteId h (TxRequest k) = h
+noteId h (ModifyRequest d) = h
+noteId h (DCallProceeding i) = i
+noteId h (DAlert i) = i
+noteId h (DConnect i g d o) = i
+noteId h (DConnectAcknowledge i g o) = h
+noteId h (DSetup i a d) = i
+noteId h (DInfo i r o d) = h
+noteId h (DTxGranted i g) = h
+noteId h (DTxCeased i) = h
+noteId h (DTxInterrupt i g) = h
+noteId h (DTxWait i) = h
+noteId h (DTxContinue i k) = h
+noteId h (DCallRestore i g r o) = h
+noteId h (DDisconnect i) = h
+noteId h (DRelease i) = h
+noteId h ReportSent = h
+noteId h ReportFailed = h
+noteId h Break = h
+noteId h Resume = h
+noteId h (Expiry n) = h
+
+unfoldable pub readsId : ℕ → List Event → ℕ
+readsId h [] = h
+readsId h (e ∷ es) = readsId (noteId h e) es
+
+-- the identifier that the last of some taken events to bring one brought to the present call
+unfoldable pub idByHistory : List Event → ℕ
+idByHistory es = readsId 0 es

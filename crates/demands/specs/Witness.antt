@@ -9,11 +9,13 @@ use lib.Dec.{eqb}
 use lib.ListN.{getD, take, drop}
 use Rattle.records.specs.declared.events.Event.{Event}
 use Rattle.records.specs.declared.events.Event.the-variants.{DCallRestore, Break}
+use Rattle.records.specs.declared.messages.Message.{Message}
+use Rattle.records.specs.declared.messages.Message.the-variants.{URelease, Stop, Configure, Cancel, ReleaseIndication, ReleaseConfirm}
 use Rattle.callcontrol.specs.declared.call.Call.{Call}
 use Rattle.callcontrol.specs.Call.{freshCall, stateNumber, pathNumber, _⇒_}
 use Rattle.callcontrol.specs.Step.{Outcome}
-use Rattle.demands.specs.Runs.{Turn, outcome, next, run, takenBy, told, ends}
-use Rattle.demands.specs.Demands.{quiet}
+use Rattle.demands.specs.Runs.{Turn, outcome, next, run, takenBy, writtenBy, told, ends}
+use Rattle.demands.specs.Demands.{quiet, applies}
 
 -- 64 bytes are lent
 abbrev zeros : ℕ → List ℕ
@@ -83,11 +85,18 @@ abbrev pub lost : List Line
 lost =
     line (11 ∷ 0 ∷ 5 ∷ 2 ∷ 9 ∷ 0 ∷ 7 ∷ 0 ∷ 0 ∷ 0 ∷ 0 ∷ []) 0 2 0 4 false
     ∷ line (4 ∷ 0 ∷ 2 ∷ 1 ∷ []) 0 2 0 4 false
-    ∷ line (8 ∷ 0 ∷ 4 ∷ 2 ∷ 9 ∷ 0 ∷ 0 ∷ 0 ∷ []) 0 3 0 1 false
+    ∷ line (8 ∷ 0 ∷ 4 ∷ 2 ∷ 9 ∷ 0 ∷ 0 ∷ 3 ∷ []) 0 3 0 1 false
     ∷ line (4 ∷ 0 ∷ 3 ∷ 3 ∷ []) 0 3 1 4 false
     ∷ line (4 ∷ 0 ∷ 2 ∷ 3 ∷ []) 6 3 1 4 false
     ∷ line (6 ∷ 0 ∷ 13 ∷ 2 ∷ 9 ∷ 0 ∷ []) 0 0 0 4 true
     ∷ []
+
+-- a call that the lower layers could not send, and one that is taken back before it is sent
+abbrev pub unsent : List Line
+unsent = line (10 ∷ 0 ∷ 1 ∷ 1 ∷ 7 ∷ 0 ∷ 0 ∷ 0 ∷ 0 ∷ 1 ∷ []) 0 1 0 4 false ∷ line (4 ∷ 0 ∷ 2 ∷ 3 ∷ []) 0 0 0 4 true ∷ []
+
+abbrev pub takenBack : List Line
+takenBack = line (10 ∷ 0 ∷ 1 ∷ 1 ∷ 7 ∷ 0 ∷ 0 ∷ 0 ∷ 0 ∷ 1 ∷ []) 0 1 0 4 false ∷ line (4 ∷ 0 ∷ 3 ∷ 1 ∷ []) 0 0 0 4 true ∷ []
 
 -- two records are the same, by all their places
 unfoldable pub flags : List Bool → List ℕ
@@ -123,7 +132,7 @@ goesSo ts (l ∷ ls) =
     && goesSo (ts ++ turn (l .event) ∷ []) ls
 
 abbrev pub stories : List (List Line)
-stories = outgoing ∷ incoming ∷ lost ∷ []
+stories = outgoing ∷ incoming ∷ lost ∷ unsent ∷ takenBack ∷ []
 
 -- one story after the other
 abbrev pub allGoSo : List (List Line) → Bool
@@ -178,6 +187,52 @@ abbrev pub Each : {A : Type 0} → (A → Type 0) → List A → Type 0
 Each P [] = Unit {0}
 Each P (x ∷ xs) = P x × Each P xs
 
+-- what the last turn of a story writes
+pub record Ending : Type 0 where
+  pub before : List Turn
+  pub last : Turn
+  pub written : List Message
+
+abbrev pub ending : List Line → ℕ → List Message → Ending
+ending ls n ms = record { before = take n (turnsOf ls); last = getD (turnsOf ls) n (turn []); written = ms }
+
+abbrev pub Writes : Ending → Type 0
+Writes x = writtenBy (run freshCall (x .before)) (x .last) ≡ x .written
+
+-- the five ways in which a call ends: RELEASE confirm by D-RELEASE and by T308, RELEASE indication 3 and 4, and the local cancel
+abbrev pub endings : List Ending
+endings =
+    ending outgoing 13 (Stop 308 ∷ Configure 4 ∷ ReleaseConfirm ∷ [])
+    ∷ ending incoming 8 (Configure 4 ∷ ReleaseConfirm ∷ [])
+    ∷ ending lost 5 (Stop 310 ∷ URelease 9 ∷ Configure 4 ∷ ReleaseIndication 3 ∷ [])
+    ∷ ending unsent 1 (Stop 303 ∷ ReleaseIndication 4 ∷ [])
+    ∷ ending takenBack 1 (Stop 303 ∷ Cancel ∷ ReleaseConfirm ∷ [])
+    ∷ []
+
+-- bytes to which two refusals apply at once; the lower is given
+pub record Twice : Type 0 where
+  pub bytes : List ℕ
+  pub lower : ℕ
+  pub upper : ℕ
+
+abbrev pub twice : List ℕ → ℕ → ℕ → Twice
+twice s n m = record { bytes = s; lower = n; upper = m }
+
+unfoldable pub lowerGiven : List Twice → Bool
+lowerGiven [] = true
+lowerGiven (x ∷ xs) =
+    applies (x .lower) freshCall (x .bytes) []
+    && applies (x .upper) freshCall (x .bytes) []
+    && eqb (outcome freshCall (record { event = x .bytes; buffer = [] }) .answer) (x .lower)
+    && lowerGiven xs
+
+-- a wrong length with an unknown kind, and with identifier 0 in D-ALERT; and another call's D-ALERT, which has no row in IDLE
+abbrev pub twices : List Twice
+twices =
+    twice (5 ∷ 0 ∷ 9 ∷ 9 ∷ []) 2 3 ∷ twice (7 ∷ 0 ∷ 2 ∷ 2 ∷ 0 ∷ 0 ∷ []) 2 4 ∷ twice (6 ∷ 0 ∷ 2 ∷ 2 ∷ 5 ∷ 0 ∷ []) 5 6 ∷ []
+
 pub record Witness : Type 0 where
   pub lines : allGoSo stories ≡ true
   pub cuts : Each Premises cuttings
+  pub ends : Each Writes endings
+  pub lowest : lowerGiven twices ≡ true
