@@ -13,7 +13,7 @@ use Rattle.callcontrol.specs.declared.call.Call.{Call}
 use Rattle.callcontrol.specs.Step.{Outcome, stepOf}
 use Rattle.host.specs.Packing.{packed, isRecord, held, unpacked}
 use Rattle.host.specs.Entries.{Left, word, stepped, hostStep, wroteWord, copied}
-use Rattle.host.proofs.Tests.{left, right}
+use Rattle.demands.proofs.Facts.{left, right}
 
 -- bytes that are no record
 pub no-record : (s e b : List ℕ) {is : Bool} → is ≡ isRecord s → not is ≡ true

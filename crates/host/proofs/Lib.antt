@@ -1,5 +1,5 @@
 pub mod Answers
 pub mod Determined
 pub mod Packing
+pub mod Runs
 pub mod Small
-pub mod Tests

@@ -15,7 +15,7 @@ use Rattle.callcontrol.specs.declared.call.Call.{Call}
 use Rattle.callcontrol.specs.Call.{stateNumber, pathNumber, inRange, sound}
 use Rattle.host.specs.Packing.{names, settings, running, packed, stateIs, pathIs, flag, isRecord, held, unpacked}
 use Rattle.host.specs.Laws.{PackedIsUnpacked, SoundIsUnpacked, HeldIsPacked}
-use Rattle.host.proofs.Tests.{left, right}
+use Rattle.demands.proofs.Facts.{left, right}
 
 -- n elements of a list from a position on, one by one
 abbrev items : {A : Type 0} → ℕ → ℕ → List A → A → List A

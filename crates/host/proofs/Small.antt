@@ -24,7 +24,7 @@ use Rattle.callcontrol.specs.Orders.{held, orders, bytesOf, countOf}
 use Rattle.callcontrol.specs.Step.{Outcome, refusal, otherCall, carried, decided, whenRead, stepOf}
 use Rattle.callcontrol.proofs.Laying.{size-one, size-bound, size-orders}
 use Rattle.host.specs.Entries.{wroteWord}
-use Rattle.host.proofs.Tests.{left, right}
+use Rattle.demands.proofs.Facts.{left, right}
 
 -- ---- a step writes at most seven STOPs and seven STARTs, CANCEL, a PDU, CONFIGURE and a primitive
 
