@@ -22,6 +22,10 @@ use Rattle.records.specs.Laws.{Determines}
 turned : {A B : Type 0} (f : A → B) (g : B → A) → ((a : A) → g (f a) ≡ a) → Determines f
 turned f g same x r₁ r₂ e₁ e₂ = sym (same r₁) ∙ ap g (e₁ ∙ sym e₂) ∙ same r₂
 
+-- and so does a promise that is an equation of the result: this serves every such promise, here and in the crates above
+pub equation : {A : Type 0} → Determines {A = A} {B = A} (λ r. r)
+equation = turned (λ r. r) (λ r. r) (λ r. refl)
+
 event-back : Read Event → EventRead
 event-back (taken e) = EventRead.Is e
 event-back (refused n) = cond (eqb n 2) EventRead.BadLength (cond (eqb n 3) EventRead.UnknownKind EventRead.BadBody)
@@ -85,10 +89,10 @@ pub write-message : (m : Message) (buffer : List ℕ) (w₁ w₂ : Written × Li
 write-message m buffer = into-determined (write messages m buffer)
 
 pub lay-message : (m : Message) (buffer : List ℕ) (at : ℕ) (w₁ w₂ : ℕ × List ℕ) → w₁ ≡ (laidNext (messageBytes m) buffer at, laid (messageBytes m) buffer at) → w₂ ≡ (laidNext (messageBytes m) buffer at, laid (messageBytes m) buffer at) → w₁ ≡ w₂
-lay-message m buffer at w₁ w₂ e₁ e₂ = e₁ ∙ sym e₂
+lay-message m buffer at = equation (laidNext (messageBytes m) buffer at, laid (messageBytes m) buffer at)
 
 pub message-size : (m : Message) (r₁ r₂ : ℕ) → r₁ ≡ messageSize m → r₂ ≡ messageSize m → r₁ ≡ r₂
-message-size m r₁ r₂ e₁ e₂ = e₁ ∙ sym e₂
+message-size m = equation (messageSize m)
 
 pub kind-in : (s : List ℕ) (r₁ r₂ : Frame) → asFrame r₁ ≡ kindIn s → asFrame r₂ ≡ kindIn s → r₁ ≡ r₂
 kind-in s = turned asFrame frame-back frame-same (kindIn s)

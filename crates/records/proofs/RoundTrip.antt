@@ -7,10 +7,10 @@ use mathlib.Core.List.{List, [], _∷_, _++_}
 use mathlib.Core.Logic.{_⊎_, inl, inr, ⊎-elim}
 use mathlib.Core.Option.{Option, none, some}
 use native.Mathlib.Omega.{arith}
-use native.Mathlib.Nat.{pow-suc}
+use native.Mathlib.Nat.{pow-suc, zero-add}
 use borrow.Author.Tests.{ltb-true, leb-true, eqb-true, le-leb, eq-eqb}
 use lib.Dec.{lit<, ltb, leb, eqb}
-use lib.ListN.{length, getD, take, drop, length-append, length-drop, take-append-drop}
+use lib.ListN.{length, getD, take, drop, length-drop, take-append-drop}
 use lib.Seq.{drop-cons, drop-drop, drop-at, take-add, take-all, take-append-seam, sets, sets-eq}
 use Rattle.records.specs.declared.letters.Byte.{Byte}
 use Rattle.records.specs.declared.letters.Word.{Word}
@@ -19,9 +19,10 @@ use Rattle.records.specs.Letters.{Letter, byte, word, long, width, fits,
 use Rattle.records.specs.Bytes.{number, bytes}
 use Rattle.records.specs.Bodies.{Values, Flat, Wrote, wrote, notWritten, size, andThen, valueAt, valuesAt, kindIn, bodyOf, allFit, bodyBytes, flatSize, flatFits, flatBytes, written}
 use Rattle.records.specs.Tables.{Table, Read, taken, refused, orRefuse, find, readBody, readAs, read, flat, fine, write}
-use Rattle.records.specs.Laws.{every, Lawful, WrittenReadsBack, WriterReadsBack, ReadIsWrittenBack}
+use Rattle.records.specs.Laws.{every, Lawful, WrittenReadsBack, WriterReadsBack, ReadIsWrittenBack, ReadWritesBack}
 use Rattle.records.specs.Events.{events}
 use Rattle.records.specs.Messages.{messages}
+use Rattle.records.proofs.Laws.{length-bytes, length-bodyBytes}
 use Rattle.records.proofs.Rows.{good, headed}
 use Rattle.records.proofs.Tables.{event-lawful, message-lawful}
 
@@ -78,11 +79,6 @@ below (long Long.A1) v h = omega (arith, capped 1 16777215 v h)
 
 -- ---- numbers and bytes
 
-length-bytes : (w v : ℕ) → length (bytes w v) ≡ w
-unfolding bytes
-length-bytes zero v = refl
-length-bytes (suc w) v = ap suc (length-bytes w (v / 256))
-
 head-at : (s : List ℕ) (at x : ℕ) (rest : List ℕ) → drop at s ≡ x ∷ rest → (getD s at 0 ≡ x) × (drop (suc at) s ≡ rest)
 head-at [] zero x rest e = (cc, cc)
 head-at [] (suc at) x rest e = (cc, cc)
@@ -108,11 +104,6 @@ bytes-number (suc w) at s small h =
     rw (low, high, drop-cons s at 0 (omega arith), bytes-number w (suc at) s small (omega arith))
 
 -- ---- bodies
-
-length-body : (ls : List Letter) (vs : Values ls) → length (bodyBytes ls vs) ≡ size ls
-unfolding bodyBytes
-length-body [] vs = refl
-length-body (l ∷ ls) vs = rw (length-append, length-bytes, length-body ls (vs .1))
 
 -- the bytes of values hold those values
 values-body : (ls : List Letter) (vs : Values ls) (s : List ℕ) (at : ℕ) → allFit ls vs ≡ true → drop at s ≡ bodyBytes ls vs → valuesAt ls s at ≡ some vs
@@ -186,7 +177,7 @@ module _ (t : Table) (lawful : Lawful t) where
       ⊎-elim (λ w. rw (w .1) at (both (p j) (every p ks) h .0)) (λ w. every-found p n ks k w (both (p j) (every p ks) h .1))
       (chosen (eqb n (t .rowOf j .number)) j k (find t n ks) e)
 
-  narrow : (k : t .Kind) → (t .rowOf k .number < 65536) × (4 + size (t .rowOf k .letters) < 65536)
+  pub narrow : (k : t .Kind) → (t .rowOf k .number < 65536) × (4 + size (t .rowOf k .letters) < 65536)
   narrow k =
       let w : (ltb (t .rowOf k .number) 65536 ≡ true) × (ltb (4 + size (t .rowOf k .letters)) 65536 ≡ true) = both _ _ (every-found _ (t .rowOf k .number) (t .kinds) k (lawful .found k) (lawful .narrow)) in
       (ltb-true _ _ (w .0), ltb-true _ _ (w .1))
@@ -230,7 +221,7 @@ module _ (t : Table) (lawful : Lawful t) where
   bytes-hold : (k : t .Kind) (vs : Values (t .rowOf k .letters)) → allFit (t .rowOf k .letters) vs ≡ true → Holds k vs (flatBytes (flatOf (k, vs)))
   unfolding flatBytes flatSize bytes
   bytes-hold k vs fit =
-      let measured : length (flatBytes (flatOf (k, vs))) ≡ 4 + size (t .rowOf k .letters) = omega (arith, length-body (t .rowOf k .letters) vs) in
+      let measured : length (flatBytes (flatOf (k, vs))) ≡ 4 + size (t .rowOf k .letters) = omega (arith, length-bodyBytes (t .rowOf k .letters) vs) in
       record {
         measured = measured;
         said = number-bytes 2 (4 + size (t .rowOf k .letters)) 0 _ (bytes 2 (t .rowOf k .number) ++ bodyBytes (t .rowOf k .letters) vs) (narrow k .1) refl ∙ sym measured;
@@ -268,6 +259,12 @@ module _ (t : Table) (lawful : Lawful t) where
       let same : _≡_ {A = (k : t .Kind) × Values (t .rowOf k .letters)} (t .apart v) (w .0, w .1 .0) = rw (w .1 .1 .1 .1) at (lawful .together (w .0) (w .1 .0)) in
       (ap (λ kv. flatBytes (flatOf kv)) same ∙ b .0, rw (ap (λ kv. flatFits (flatOf kv)) same ∙ b .1, w .1 .1 .1 .0))
 
+  pub read-writes-back : ReadWritesBack t
+  unfolding write written
+  read-writes-back v s buffer small room e =
+      let w : (flatBytes (flat t v) ≡ s) × (fine t v ≡ true) = read-is-written-back v s small e in
+      rw (w .1, w .0, le-leb _ _ room, sets-eq s buffer 0 (omega arith), zero-add)
+
 -- ---- the two tables
 
 pub event-written-reads-back : WrittenReadsBack events
@@ -279,6 +276,9 @@ event-writer-reads-back = writer-reads-back events event-lawful
 pub event-read-is-written-back : ReadIsWrittenBack events
 event-read-is-written-back = read-is-written-back events event-lawful
 
+pub event-read-writes-back : ReadWritesBack events
+event-read-writes-back = read-writes-back events event-lawful
+
 pub message-written-reads-back : WrittenReadsBack messages
 message-written-reads-back = written-reads-back messages message-lawful
 
@@ -287,3 +287,6 @@ message-writer-reads-back = writer-reads-back messages message-lawful
 
 pub message-read-is-written-back : ReadIsWrittenBack messages
 message-read-is-written-back = read-is-written-back messages message-lawful
+
+pub message-read-writes-back : ReadWritesBack messages
+message-read-writes-back = read-writes-back messages message-lawful

@@ -1,11 +1,11 @@
 -- What holds of the tables, and of what is read and written by them. The proofs are in proofs/Tables and proofs/RoundTrip.
-use Prim.Native.Nat.{ℕ, _+_, _<_}
+use Prim.Native.Nat.{ℕ, _+_, _<_, _≤_}
 use mathlib.Core.Path.{_≡_}
 use mathlib.Core.Bool.{Bool, true, _&&_, not}
-use mathlib.Core.List.{List, [], _∷_, map}
+use mathlib.Core.List.{List, [], _∷_, _++_, map}
 use mathlib.Core.Option.{some}
 use lib.Dec.{eqb, ltb}
-use lib.ListN.{getD, take}
+use lib.ListN.{length, getD, take, drop}
 use Rattle.records.specs.Bodies.{Values, wrote, size, flatBytes}
 use Rattle.records.specs.Tables.{Table, taken, find, read, flat, fine, write}
 
@@ -48,6 +48,10 @@ module _ (t : Table) where
   -- what is read is written back as the same bytes
   abbrev pub ReadIsWrittenBack : Type 0
   ReadIsWrittenBack = (v : t .Value) (s : List ℕ) → ((i : ℕ) → getD s i 0 < 256) → read t s ≡ taken v → (flatBytes (flat t v) ≡ s) × (fine t v ≡ true)
+
+  -- the same over a writer: where the bytes that were read fit, it counts them, and stores them before what the buffer held behind them
+  abbrev pub ReadWritesBack : Type 0
+  ReadWritesBack = (v : t .Value) (s buffer : List ℕ) → ((i : ℕ) → getD s i 0 < 256) → length s ≤ length buffer → read t s ≡ taken v → write t v buffer ≡ (wrote (length s), s ++ drop (length s) buffer)
 
 -- a promise that says `f result ≡ x` leaves one result, whatever x is
 abbrev pub Determines : {A B : Type 0} → (A → B) → Type 0
