@@ -37,14 +37,14 @@ extern "C" {
 
 /* The lowest number that applies is given. A refusal counts 0 bytes and changes no byte. */
 enum callcontrol_answer {
-    CALLCONTROL_TAKEN = 0,           /* taken; bytes written are counted */
-    CALLCONTROL_NOT_SOUND = 1,       /* the bytes are no call record, or it is not sound */
-    CALLCONTROL_BAD_LENGTH = 2,      /* under 4 bytes, or the length field differs from them */
-    CALLCONTROL_BAD_KIND = 3,        /* no event kind (for messages: no message kind) */
-    CALLCONTROL_BAD_FIELD = 4,       /* body size or a field out of range */
-    CALLCONTROL_OTHER_CALL = 5,      /* a network event whose identifier is not the held one */
-    CALLCONTROL_NO_ROW = 6,          /* nothing is foreseen for this event in this state */
-    CALLCONTROL_BUFFER_TOO_SHORT = 7 /* the messages are longer than the lent buffer */
+    CALLCONTROL_TAKEN = 0,        /* taken; bytes written are counted */
+    CALLCONTROL_NOT_SOUND = 1,    /* the bytes are no call record, or it is not sound */
+    CALLCONTROL_BAD_LENGTH = 2,   /* under 4 bytes, or the length field differs from them */
+    CALLCONTROL_UNKNOWN_KIND = 3, /* no event kind (for messages: no message kind) */
+    CALLCONTROL_BAD_BODY = 4,     /* body size or a field out of range */
+    CALLCONTROL_OTHER_CALL = 5,   /* a network event whose identifier is not the held one */
+    CALLCONTROL_NO_ROW = 6,       /* nothing is foreseen for this event in this state */
+    CALLCONTROL_NO_ROOM = 7       /* the messages are longer than the lent buffer */
 };
 
 /* ---- The call record ----------------------------------------------------------------------- */

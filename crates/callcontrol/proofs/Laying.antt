@@ -14,9 +14,9 @@ use Rattle.records.specs.Bodies.{laid, laidNext, flatSize}
 use Rattle.records.specs.Tables.{flat}
 use Rattle.records.specs.Messages.{messages, messageBytes, messageSize}
 use Rattle.records.proofs.Laws.{sets-append, length-flatBytes}
-use Rattle.callcontrol.specs.declared.draft.Draft.{Draft}
+use Rattle.callcontrol.specs.Draft.{Draft}
 use Rattle.callcontrol.specs.Call.{T301, T302, T303, T306, T308, T310, T311}
-use Rattle.callcontrol.specs.Orders.{when, held, byNumber, starting, orders, bytesOf, layAll, Laid, countOf}
+use Rattle.callcontrol.specs.Writing.{when, held, byNumber, starting, messagesIn, bytesOf, layAll, Laid, countOf}
 
 -- what is laid in two parts
 lay-append : (ms ns : List Message) (at : ℕ) (b : List ℕ) → layAll (ms ++ ns) at b ≡ layAll ns (layAll ms at b .0) (layAll ms at b .1)
@@ -106,15 +106,15 @@ size-bound (Message.TxIndication x) = lit≤ tt
 size-bound (Message.ModifyIndication d) = lit≤ tt
 
 -- the whole of an order: what its parts take
-pub size-orders : (d : Draft)
-    → length (bytesOf (orders d))
+pub size-messages : (d : Draft)
+    → length (bytesOf (messagesIn d))
     ≡ 6 * countOf (d .stops) + cond (d .cancel) 4 0 + length (bytesOf (held (d .pdu))) + 7 * countOf (d .starts)
-    + cond (not (eqb (d .told) 0)) 5 0 + length (bytesOf (held (d .user)))
-unfolding orders messageSize flatSize starting
-size-orders d =
+    + cond (not (eqb (d .configure) 0)) 5 0 + length (bytesOf (held (d .user)))
+unfolding messagesIn messageSize flatSize starting
+size-messages d =
     let cancel : length (bytesOf (when (d .cancel) Message.Cancel)) ≡ cond (d .cancel) 4 0 = whole (d .cancel) Message.Cancel 4 refl in
-    let plane : length (bytesOf (when (not (eqb (d .told) 0)) (Message.Configure (d .told)))) ≡ cond (not (eqb (d .told) 0)) 5 0 =
-    whole (not (eqb (d .told) 0)) (Message.Configure (d .told)) 5 refl in
+    let plane : length (bytesOf (when (not (eqb (d .configure) 0)) (Message.Configure (d .configure)))) ≡ cond (not (eqb (d .configure) 0)) 5 0 =
+    whole (not (eqb (d .configure) 0)) (Message.Configure (d .configure)) 5 refl in
     simp size-append
     (omega
     (arith, cancel, plane, size-byNumber Message.Stop (d .stops) 6 (λ k. refl), size-byNumber (starting (d .call .code)) (d .starts) 7 (λ k. refl)))

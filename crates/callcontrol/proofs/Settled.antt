@@ -12,74 +12,74 @@ use Rattle.records.specs.declared.messages.Message.{Message}
 use Rattle.callcontrol.specs.declared.call.Call.{Call}
 use Rattle.callcontrol.specs.declared.call.State.{State}
 use Rattle.callcontrol.specs.declared.call.Path.{Path}
-use Rattle.callcontrol.specs.declared.draft.Draft.{Draft}
+use Rattle.callcontrol.specs.Draft.{Draft}
 use Rattle.callcontrol.specs.Call.{runs, T301, T302, T303, T306, T308, T310, T311}
 use Rattle.callcontrol.specs.Draft.{_▷_, draft, noRow, go, onPath, storeId, storeMode, storeAsked, storeSent, storeCode, keep, stop, start, expired, release, samePlane, plane, off, say, tell, grant, grantOrOff, restart, cancel}
 use Rattle.callcontrol.specs.Rows.{releasing, released, disconnected, idle, moCallSetup, mtCallSetup, informed, cut, activeUp, asks, activeBroken, activeRestoring, wait, confirmed}
-use Rattle.callcontrol.specs.Settle.{STAY, MO-CALL-SETUP, MT-CALL-SETUP, CALL-ACTIVE, WAIT, CALL-DISCONNECT, OVER, UP, BROKEN, RESTORING, SENT, PLANE-1, PLANE-2, PLANE-3, OFF, SAME-PLANE, KEPT-PLANE, U-SETUP, U-CONNECT, U-RELEASE, U-INFO, U-TX-DEMAND, U-TX-CEASED, U-CALL-RESTORE, SETUP-INDICATION, SETUP-CONFIRM, PROCEED, ALERT, COMPLETE, RELEASE-INDICATION, RELEASE-CONFIRM, TX-INDICATION, MODIFY-INDICATION, CANCEL, STOP-301, STOP-302, STOP-303, STOP-306, START-301, START-302, START-303, START-306, START-310, EXPIRED-301, EXPIRED-302, EXPIRED-303, EXPIRED-306, EXPIRED-308, EXPIRED-310, EXPIRED-311, ENDED, CONFIRMED, RELEASE, has, timing, expireTimer, stopTimer, startTimer, stopIf, startIf, expiredBy, orderedBy, planeTimer, timingBy, toldBy, planeBy, stateBy, keptBy, pathBy, sentBy, nextBy, pduBy, userBy, settled, drawn, noneRow, rowOf, rowAsking, rowNaming, planeGranted, planeOrOff, askedAfter, restarting, codeAfter}
+use Rattle.callcontrol.specs.Settle.{STAY, MO-CALL-SETUP, MT-CALL-SETUP, CALL-ACTIVE, WAIT, CALL-DISCONNECT, OVER, UP, BROKEN, RESTORING, SENT, PLANE-1, PLANE-2, PLANE-3, OFF, SAME-PLANE, KEPT-PLANE, U-SETUP, U-CONNECT, U-RELEASE, U-INFO, U-TX-DEMAND, U-TX-CEASED, U-CALL-RESTORE, SETUP-INDICATION, SETUP-CONFIRM, PROCEED, ALERT, COMPLETE, RELEASE-INDICATION, RELEASE-CONFIRM, TX-INDICATION, MODIFY-INDICATION, CANCEL, STOP-301, STOP-302, STOP-303, STOP-306, START-301, START-302, START-303, START-306, START-310, EXPIRED-301, EXPIRED-302, EXPIRED-303, EXPIRED-306, EXPIRED-308, EXPIRED-310, EXPIRED-311, ENDED, CONFIRMED, RELEASE, has, timing, expireTimer, stopTimer, startTimer, stopIf, startIf, expiredBy, orderedBy, planeTimer, timingBy, configureBy, planeBy, stateBy, keptBy, pathBy, sentBy, nextBy, pduBy, userBy, settled, draftOf, noneRow, rowOf, rowAsking, rowNaming, planeGranted, planeOrOff, askedAfter, restarting, codeAfter}
 use Rattle.callcontrol.proofs.Verbs.{verbs}
 
 unfoldable pub numbers : Unit {0}
-unfolding has timing expireTimer stopTimer startTimer stopIf startIf expiredBy orderedBy planeTimer timingBy toldBy planeBy stateBy keptBy pathBy sentBy nextBy pduBy userBy settled drawn
+unfolding has timing expireTimer stopTimer startTimer stopIf startIf expiredBy orderedBy planeTimer timingBy configureBy planeBy stateBy keptBy pathBy sentBy nextBy pduBy userBy settled draftOf
 numbers = tt
 
-pub none-is : (c : Call) → drawn c noneRow ≡ noRow c
+pub none-is : (c : Call) → draftOf c noneRow ≡ noRow c
 unfolding numbers
 none-is c = refl
 
-pub releasing-is : (c : Call) → drawn c (rowAsking c RELEASE 0 1) ≡ releasing c
+pub releasing-is : (c : Call) → draftOf c (rowAsking c RELEASE 0 1) ≡ releasing c
 unfolding verbs numbers releasing
 releasing-is c = refl
 
-pub released-is : (c : Call) → drawn c (rowOf c ENDED 3) ≡ released c
+pub released-is : (c : Call) → draftOf c (rowOf c ENDED 3) ≡ released c
 unfolding verbs numbers released
 released-is c = refl
 
-pub disconnected-is : (c : Call) (i : ℕ) → drawn c (rowNaming c (ENDED + U-RELEASE) i 3) ≡ disconnected i c
+pub disconnected-is : (c : Call) (i : ℕ) → draftOf c (rowNaming c (ENDED + U-RELEASE) i 3) ≡ disconnected i c
 unfolding verbs numbers disconnected
 disconnected-is c i = refl
 
-pub timed-out-301-is : (c : Call) → drawn c (rowAsking c (EXPIRED-301 + RELEASE + RELEASE-INDICATION) 0 2) ≡ draft c ▷ expired T301 ▷ release 2 ▷ tell (Message.ReleaseIndication 2)
+pub timed-out-301-is : (c : Call) → draftOf c (rowAsking c (EXPIRED-301 + RELEASE + RELEASE-INDICATION) 0 2) ≡ draft c ▷ expired T301 ▷ release 2 ▷ tell (Message.ReleaseIndication 2)
 unfolding verbs numbers
 timed-out-301-is c = refl
 
-pub timed-out-302-is : (c : Call) → drawn c (rowAsking c (EXPIRED-302 + RELEASE + RELEASE-INDICATION) 0 2) ≡ draft c ▷ expired T302 ▷ release 2 ▷ tell (Message.ReleaseIndication 2)
+pub timed-out-302-is : (c : Call) → draftOf c (rowAsking c (EXPIRED-302 + RELEASE + RELEASE-INDICATION) 0 2) ≡ draft c ▷ expired T302 ▷ release 2 ▷ tell (Message.ReleaseIndication 2)
 unfolding verbs numbers
 timed-out-302-is c = refl
 
-pub timed-out-303-is : (c : Call) → drawn c (rowAsking c (EXPIRED-303 + RELEASE + RELEASE-INDICATION) 0 2) ≡ draft c ▷ expired T303 ▷ release 2 ▷ tell (Message.ReleaseIndication 2)
+pub timed-out-303-is : (c : Call) → draftOf c (rowAsking c (EXPIRED-303 + RELEASE + RELEASE-INDICATION) 0 2) ≡ draft c ▷ expired T303 ▷ release 2 ▷ tell (Message.ReleaseIndication 2)
 unfolding verbs numbers
 timed-out-303-is c = refl
 
-pub timed-out-306-is : (c : Call) → drawn c (rowAsking c (EXPIRED-306 + RELEASE + RELEASE-INDICATION) 0 2) ≡ draft c ▷ expired T306 ▷ release 2 ▷ tell (Message.ReleaseIndication 2)
+pub timed-out-306-is : (c : Call) → draftOf c (rowAsking c (EXPIRED-306 + RELEASE + RELEASE-INDICATION) 0 2) ≡ draft c ▷ expired T306 ▷ release 2 ▷ tell (Message.ReleaseIndication 2)
 unfolding verbs numbers
 timed-out-306-is c = refl
 
-pub timed-out-310-is : (c : Call) → drawn c (rowAsking c (EXPIRED-310 + RELEASE + RELEASE-INDICATION) 0 2) ≡ draft c ▷ expired T310 ▷ release 2 ▷ tell (Message.ReleaseIndication 2)
+pub timed-out-310-is : (c : Call) → draftOf c (rowAsking c (EXPIRED-310 + RELEASE + RELEASE-INDICATION) 0 2) ≡ draft c ▷ expired T310 ▷ release 2 ▷ tell (Message.ReleaseIndication 2)
 unfolding verbs numbers
 timed-out-310-is c = refl
 
 -- IDLE
 
-pub setup-request-is : (c : Call) (a d q : ℕ) → drawn c (record { orders = MO-CALL-SETUP + U-SETUP + START-303; id = c .id; address = a; mode = d; asked = q; code = c .code; value = 0 }) ≡ idle c (Event.SetupRequest a d q)
+pub setup-request-is : (c : Call) (a d q : ℕ) → draftOf c (record { orders = MO-CALL-SETUP + U-SETUP + START-303; id = c .id; address = a; mode = d; asked = q; code = c .code; value = 0 }) ≡ idle c (Event.SetupRequest a d q)
 unfolding verbs numbers idle
 setup-request-is c a d q = refl
 
-pub d-setup-is : (c : Call) (i a d : ℕ) → drawn c (record { orders = MT-CALL-SETUP + SETUP-INDICATION; id = i; address = a; mode = d; asked = c .asked; code = c .code; value = 0 }) ≡ idle c (Event.DSetup i a d)
+pub d-setup-is : (c : Call) (i a d : ℕ) → draftOf c (record { orders = MT-CALL-SETUP + SETUP-INDICATION; id = i; address = a; mode = d; asked = c .asked; code = c .code; value = 0 }) ≡ idle c (Event.DSetup i a d)
 unfolding verbs numbers idle
 d-setup-is c i a d = refl
 
 -- MO-CALL-SETUP
 
-pub cancelled-is : (c : Call) → eqb (c .sent) 0 ≡ true → drawn c (rowOf c (CANCEL + STOP-303 + RELEASE-CONFIRM + OVER) 0) ≡ moCallSetup c Event.ReleaseRequest
+pub cancelled-is : (c : Call) → eqb (c .sent) 0 ≡ true → draftOf c (rowOf c (CANCEL + STOP-303 + RELEASE-CONFIRM + OVER) 0) ≡ moCallSetup c Event.ReleaseRequest
 unfolding verbs numbers moCallSetup
 cancelled-is c e = rw e refl
 
-pub proceeding-is : (c : Call) (i : ℕ) → drawn c (rowNaming c (STAY + SENT + STOP-303 + START-302 + PROCEED) i 0) ≡ moCallSetup c (Event.DCallProceeding i)
+pub proceeding-is : (c : Call) (i : ℕ) → draftOf c (rowNaming c (STAY + SENT + STOP-303 + START-302 + PROCEED) i 0) ≡ moCallSetup c (Event.DCallProceeding i)
 unfolding verbs numbers moCallSetup
 proceeding-is c i = refl
 
-pub alert-is : (c : Call) (i : ℕ) → drawn c (rowNaming c (STAY + SENT + STOP-303 + START-302 + ALERT) i 0) ≡ moCallSetup c (Event.DAlert i)
+pub alert-is : (c : Call) (i : ℕ) → draftOf c (rowNaming c (STAY + SENT + STOP-303 + START-302 + ALERT) i 0) ≡ moCallSetup c (Event.DAlert i)
 unfolding verbs numbers moCallSetup
 alert-is c i = refl
 
@@ -216,7 +216,7 @@ draft-mode : (c : Call) → eqb (draft c .call .mode) 1 ≡ eqb (c .mode) 1
 unfolding verbs
 draft-mode c = refl
 
-connected-by : (c : Call) (i g d o : ℕ) (w : Granted) → drawn c (record { orders = CALL-ACTIVE + SENT + STOP-302 + STOP-303 + START-310 + SETUP-CONFIRM + planeOfOr w; id = i; address = c .address; mode = d; asked = askedOf w (c .asked); code = o; value = g }) ≡ givenOr w (connecting c i d o) ▷ tell (Message.SetupConfirm i g)
+connected-by : (c : Call) (i g d o : ℕ) (w : Granted) → draftOf c (record { orders = CALL-ACTIVE + SENT + STOP-302 + STOP-303 + START-310 + SETUP-CONFIRM + planeOfOr w; id = i; address = c .address; mode = d; asked = askedOf w (c .asked); code = o; value = g }) ≡ givenOr w (connecting c i d o) ▷ tell (Message.SetupConfirm i g)
 unfolding verbs numbers
 connected-by c i g d o both = refl
 connected-by c i g d o one = refl
@@ -225,7 +225,7 @@ connected-by c i g d o queued = refl
 connected-by c i g d o another = refl
 connected-by c i g d o neither = refl
 
-pub connected-is : (c : Call) (i g d o : ℕ) → drawn c (record { orders = CALL-ACTIVE + SENT + STOP-302 + STOP-303 + START-310 + SETUP-CONFIRM + planeOrOff g d; id = i; address = c .address; mode = d; asked = askedAfter g (c .asked); code = o; value = g }) ≡ moCallSetup c (Event.DConnect i g d o)
+pub connected-is : (c : Call) (i g d o : ℕ) → draftOf c (record { orders = CALL-ACTIVE + SENT + STOP-302 + STOP-303 + START-310 + SETUP-CONFIRM + planeOrOff g d; id = i; address = c .address; mode = d; asked = askedAfter g (c .asked); code = o; value = g }) ≡ moCallSetup c (Event.DConnect i g d o)
 unfolding moCallSetup
 connected-is c i g d o =
     rw (plane-or-off-is g d (eqb d 1) refl, asked-is g (c .asked) (eqb d 1))
@@ -234,21 +234,21 @@ connected-is c i g d o =
 
 -- REPORTs, in MO-CALL-SETUP and CALL-DISCONNECT
 
-pub reported-is : (c : Call) → drawn c (rowOf c (STAY + SENT) 0) ≡ draft c ▷ storeSent 1
+pub reported-is : (c : Call) → draftOf c (rowOf c (STAY + SENT) 0) ≡ draft c ▷ storeSent 1
 unfolding verbs numbers
 reported-is c = refl
 
-pub failed-is : (c : Call) → eqb (c .sent) 0 ≡ true → drawn c (rowOf c (STOP-303 + RELEASE-INDICATION + OVER) 4) ≡ moCallSetup c Event.ReportFailed
+pub failed-is : (c : Call) → eqb (c .sent) 0 ≡ true → draftOf c (rowOf c (STOP-303 + RELEASE-INDICATION + OVER) 4) ≡ moCallSetup c Event.ReportFailed
 unfolding verbs numbers moCallSetup
 failed-is c e = rw e refl
 
 -- MT-CALL-SETUP
 
-pub responded-is : (c : Call) → runs c T301 ≡ false → drawn c (rowOf c (STAY + U-CONNECT + START-301) 0) ≡ mtCallSetup c Event.SetupResponse
+pub responded-is : (c : Call) → runs c T301 ≡ false → draftOf c (rowOf c (STAY + U-CONNECT + START-301) 0) ≡ mtCallSetup c Event.SetupResponse
 unfolding verbs numbers mtCallSetup
 responded-is c e = rw e refl
 
-acknowledged-by : (c : Call) (g o : ℕ) (w : Granted) → drawn c (record { orders = CALL-ACTIVE + STOP-301 + START-310 + COMPLETE + planeOfOr w; id = c .id; address = c .address; mode = c .mode; asked = askedOf w (c .asked); code = o; value = g }) ≡ givenOr w (acknowledging c o) ▷ tell (Message.Complete g)
+acknowledged-by : (c : Call) (g o : ℕ) (w : Granted) → draftOf c (record { orders = CALL-ACTIVE + STOP-301 + START-310 + COMPLETE + planeOfOr w; id = c .id; address = c .address; mode = c .mode; asked = askedOf w (c .asked); code = o; value = g }) ≡ givenOr w (acknowledging c o) ▷ tell (Message.Complete g)
 unfolding verbs numbers
 acknowledged-by c g o both = refl
 acknowledged-by c g o one = refl
@@ -257,7 +257,7 @@ acknowledged-by c g o queued = refl
 acknowledged-by c g o another = refl
 acknowledged-by c g o neither = refl
 
-pub acknowledged-is : (c : Call) (g o : ℕ) → drawn c (record { orders = CALL-ACTIVE + STOP-301 + START-310 + COMPLETE + planeOrOff g (c .mode); id = c .id; address = c .address; mode = c .mode; asked = askedAfter g (c .asked); code = o; value = g }) ≡ acknowledging c o ▷ grantOrOff g ▷ tell (Message.Complete g)
+pub acknowledged-is : (c : Call) (g o : ℕ) → draftOf c (record { orders = CALL-ACTIVE + STOP-301 + START-310 + COMPLETE + planeOrOff g (c .mode); id = c .id; address = c .address; mode = c .mode; asked = askedAfter g (c .asked); code = o; value = g }) ≡ acknowledging c o ▷ grantOrOff g ▷ tell (Message.Complete g)
 acknowledged-is c g o =
     rw (plane-or-off-is g (c .mode) (eqb (c .mode) 1) refl, asked-is g (c .asked) (eqb (c .mode) 1))
     (acknowledged-by c g o (granting g (eqb (c .mode) 1))
@@ -265,19 +265,19 @@ acknowledged-is c g o =
 
 -- CALL-ACTIVE, path up
 
-pub demanded-is : (c : Call) → drawn c (rowAsking c (STAY + U-TX-DEMAND) 1 0) ≡ draft c ▷ say (Message.UTxDemand (c .id)) ▷ storeAsked 1
+pub demanded-is : (c : Call) → draftOf c (rowAsking c (STAY + U-TX-DEMAND) 1 0) ≡ draft c ▷ say (Message.UTxDemand (c .id)) ▷ storeAsked 1
 unfolding verbs numbers
 demanded-is c = refl
 
-pub ceased-is : (c : Call) → drawn c (rowOf c (STAY + U-TX-CEASED + OFF) 0) ≡ draft c ▷ say (Message.UTxCeased (c .id)) ▷ off
+pub ceased-is : (c : Call) → draftOf c (rowOf c (STAY + U-TX-CEASED + OFF) 0) ≡ draft c ▷ say (Message.UTxCeased (c .id)) ▷ off
 unfolding verbs numbers
 ceased-is c = refl
 
-pub withdrawn-is : (c : Call) → drawn c (rowAsking c (STAY + U-TX-CEASED) 0 0) ≡ draft c ▷ say (Message.UTxCeased (c .id)) ▷ storeAsked 0
+pub withdrawn-is : (c : Call) → draftOf c (rowAsking c (STAY + U-TX-CEASED) 0 0) ≡ draft c ▷ say (Message.UTxCeased (c .id)) ▷ storeAsked 0
 unfolding verbs numbers
 withdrawn-is c = refl
 
-pub modified-is : (c : Call) (d : ℕ) → drawn c (rowOf c (STAY + U-INFO) d) ≡ activeUp c (Event.ModifyRequest d)
+pub modified-is : (c : Call) (d : ℕ) → draftOf c (rowOf c (STAY + U-INFO) d) ≡ activeUp c (Event.ModifyRequest d)
 unfolding verbs numbers activeUp
 modified-is c d = refl
 
@@ -323,33 +323,33 @@ restart-is r o d true true e f = rw (e, f) refl
 restart-is r o d true false e f = rw (e, f) refl
 restart-is r o d false absent e f = rw e refl
 
-informed-same : (c : Call) (o : ℕ) (w : Restarted) → drawn c (record { orders = STAY + SAME-PLANE + MODIFY-INDICATION + startOf w; id = c .id; address = c .address; mode = c .mode; asked = c .asked; code = codeOf w o (c .code); value = c .mode }) ≡ restartedFor w o (draft c) ▷ samePlane ▷ tell (Message.ModifyIndication (c .mode))
+informed-same : (c : Call) (o : ℕ) (w : Restarted) → draftOf c (record { orders = STAY + SAME-PLANE + MODIFY-INDICATION + startOf w; id = c .id; address = c .address; mode = c .mode; asked = c .asked; code = codeOf w o (c .code); value = c .mode }) ≡ restartedFor w o (draft c) ▷ samePlane ▷ tell (Message.ModifyIndication (c .mode))
 unfolding verbs numbers
 informed-same c o anew = refl
 informed-same c o held = refl
 informed-same c o not = refl
 
-informed-other : (c : Call) (o d : ℕ) (w : Restarted) → drawn c (record { orders = STAY + OFF + MODIFY-INDICATION + startOf w; id = c .id; address = c .address; mode = d; asked = c .asked; code = codeOf w o (c .code); value = d }) ≡ restartedFor w o (draft c) ▷ storeMode d ▷ off ▷ tell (Message.ModifyIndication d)
+informed-other : (c : Call) (o d : ℕ) (w : Restarted) → draftOf c (record { orders = STAY + OFF + MODIFY-INDICATION + startOf w; id = c .id; address = c .address; mode = d; asked = c .asked; code = codeOf w o (c .code); value = d }) ≡ restartedFor w o (draft c) ▷ storeMode d ▷ off ▷ tell (Message.ModifyIndication d)
 unfolding verbs numbers
 informed-other c o d anew = refl
 informed-other c o d held = refl
 informed-other c o d not = refl
 
-pub informed-same-is : (c : Call) (r o d : ℕ) → d ≡ c .mode → drawn c (record { orders = STAY + SAME-PLANE + MODIFY-INDICATION + restarting r; id = c .id; address = c .address; mode = d; asked = c .asked; code = codeAfter r o (c .code); value = d }) ≡ informed r o d c
+pub informed-same-is : (c : Call) (r o d : ℕ) → d ≡ c .mode → draftOf c (record { orders = STAY + SAME-PLANE + MODIFY-INDICATION + restarting r; id = c .id; address = c .address; mode = d; asked = c .asked; code = codeAfter r o (c .code); value = d }) ≡ informed r o d c
 unfolding informed
 informed-same-is c r o d e =
     rw (e, eq-eqb (c .mode) (c .mode) refl, restarting-is r o (eqb r 1) (eqb o 16) refl, code-is r o (c .code) (eqb r 1) (eqb o 16) refl refl)
     (informed-same c o (restartedBy (eqb r 1) (eqb o 16))
     ∙ ap (λ t. t ▷ samePlane ▷ tell (Message.ModifyIndication (c .mode))) (restart-is r o (draft c) (eqb r 1) (eqb o 16) refl refl))
 
-pub informed-other-is : (c : Call) (r o d : ℕ) → eqb d (c .mode) ≡ false → drawn c (record { orders = STAY + OFF + MODIFY-INDICATION + restarting r; id = c .id; address = c .address; mode = d; asked = c .asked; code = codeAfter r o (c .code); value = d }) ≡ informed r o d c
+pub informed-other-is : (c : Call) (r o d : ℕ) → eqb d (c .mode) ≡ false → draftOf c (record { orders = STAY + OFF + MODIFY-INDICATION + restarting r; id = c .id; address = c .address; mode = d; asked = c .asked; code = codeAfter r o (c .code); value = d }) ≡ informed r o d c
 unfolding informed
 informed-other-is c r o d e =
     rw (e, restarting-is r o (eqb r 1) (eqb o 16) refl, code-is r o (c .code) (eqb r 1) (eqb o 16) refl refl)
     (informed-other c o d (restartedBy (eqb r 1) (eqb o 16))
     ∙ ap (λ t. t ▷ storeMode d ▷ off ▷ tell (Message.ModifyIndication d)) (restart-is r o (draft c) (eqb r 1) (eqb o 16) refl refl))
 
-granted-by : (c : Call) (g : ℕ) (w : Granted) → drawn c (record { orders = STAY + TX-INDICATION + planeOf w; id = c .id; address = c .address; mode = c .mode; asked = askedOf w (c .asked); code = c .code; value = g }) ≡ given w (draft c) ▷ tell (Message.TxIndication g)
+granted-by : (c : Call) (g : ℕ) (w : Granted) → draftOf c (record { orders = STAY + TX-INDICATION + planeOf w; id = c .id; address = c .address; mode = c .mode; asked = askedOf w (c .asked); code = c .code; value = g }) ≡ given w (draft c) ▷ tell (Message.TxIndication g)
 unfolding verbs numbers
 granted-by c g both = refl
 granted-by c g one = refl
@@ -358,43 +358,43 @@ granted-by c g queued = refl
 granted-by c g another = refl
 granted-by c g neither = refl
 
-pub granted-is : (c : Call) (g : ℕ) → drawn c (record { orders = STAY + TX-INDICATION + planeGranted g (c .mode); id = c .id; address = c .address; mode = c .mode; asked = askedAfter g (c .asked); code = c .code; value = g }) ≡ draft c ▷ grant g ▷ tell (Message.TxIndication g)
+pub granted-is : (c : Call) (g : ℕ) → draftOf c (record { orders = STAY + TX-INDICATION + planeGranted g (c .mode); id = c .id; address = c .address; mode = c .mode; asked = askedAfter g (c .asked); code = c .code; value = g }) ≡ draft c ▷ grant g ▷ tell (Message.TxIndication g)
 granted-is c g =
     rw (plane-is g (c .mode) (eqb (c .mode) 1) refl, asked-is g (c .asked) (eqb (c .mode) 1))
     (granted-by c g (granting g (eqb (c .mode) 1))
     ∙ ap (tell (Message.TxIndication g)) (grant-is g (draft c) (eqb (c .mode) 1) (draft-mode c)))
 
-pub tx-ceased-is : (c : Call) → drawn c (rowOf c (STAY + OFF + TX-INDICATION) 4) ≡ draft c ▷ off ▷ tell (Message.TxIndication 4)
+pub tx-ceased-is : (c : Call) → draftOf c (rowOf c (STAY + OFF + TX-INDICATION) 4) ≡ draft c ▷ off ▷ tell (Message.TxIndication 4)
 unfolding verbs numbers
 tx-ceased-is c = refl
 
-pub interrupted-for-is : (c : Call) → drawn c (rowOf c (STAY + PLANE-2 + TX-INDICATION) 5) ≡ draft c ▷ plane 2 ▷ tell (Message.TxIndication 5)
+pub interrupted-for-is : (c : Call) → draftOf c (rowOf c (STAY + PLANE-2 + TX-INDICATION) 5) ≡ draft c ▷ plane 2 ▷ tell (Message.TxIndication 5)
 unfolding verbs numbers
 interrupted-for-is c = refl
 
-pub interrupted-is : (c : Call) → drawn c (rowOf c (STAY + OFF + TX-INDICATION) 5) ≡ draft c ▷ plane 4 ▷ tell (Message.TxIndication 5)
+pub interrupted-is : (c : Call) → draftOf c (rowOf c (STAY + OFF + TX-INDICATION) 5) ≡ draft c ▷ plane 4 ▷ tell (Message.TxIndication 5)
 unfolding verbs numbers
 interrupted-is c = refl
 
-pub paused-is : (c : Call) → drawn c (rowOf c (WAIT + OFF + TX-INDICATION) 6) ≡ draft c ▷ go State.Wait ▷ keep (c .plane) ▷ off ▷ tell (Message.TxIndication 6)
+pub paused-is : (c : Call) → draftOf c (rowOf c (WAIT + OFF + TX-INDICATION) 6) ≡ draft c ▷ go State.Wait ▷ keep (c .plane) ▷ off ▷ tell (Message.TxIndication 6)
 unfolding verbs numbers
 paused-is c = refl
 
-pub cut-is : (c : Call) → drawn c (rowAsking c (STAY + BROKEN + OFF) (cond (eqb (c .plane) 1 || eqb (c .plane) 3) 1 (c .asked)) 0) ≡ cut c
+pub cut-is : (c : Call) → draftOf c (rowAsking c (STAY + BROKEN + OFF) (cond (eqb (c .plane) 1 || eqb (c .plane) 3) 1 (c .asked)) 0) ≡ cut c
 unfolding verbs numbers cut
 cut-is c = refl
 
-pub spoken-out-is : (c : Call) → drawn c (rowOf c (EXPIRED-311 + STAY + U-TX-CEASED + OFF) 0) ≡ draft c ▷ expired T311 ▷ say (Message.UTxCeased (c .id)) ▷ off
+pub spoken-out-is : (c : Call) → draftOf c (rowOf c (EXPIRED-311 + STAY + U-TX-CEASED + OFF) 0) ≡ draft c ▷ expired T311 ▷ say (Message.UTxCeased (c .id)) ▷ off
 unfolding verbs numbers
 spoken-out-is c = refl
 
 -- CALL-ACTIVE, broken
 
-pub reasked-is : (c : Call) (k : ℕ) → drawn c (rowAsking c STAY k 0) ≡ draft c ▷ storeAsked k
+pub reasked-is : (c : Call) (k : ℕ) → draftOf c (rowAsking c STAY k 0) ≡ draft c ▷ storeAsked k
 unfolding verbs numbers
 reasked-is c k = refl
 
-pub resumed-is : (c : Call) → drawn c (rowAsking c (STAY + RESTORING + U-CALL-RESTORE + START-306) (asks c) 0) ≡ activeBroken c Event.Resume
+pub resumed-is : (c : Call) → draftOf c (rowAsking c (STAY + RESTORING + U-CALL-RESTORE + START-306) (asks c) 0) ≡ activeBroken c Event.Resume
 unfolding verbs numbers activeBroken
 resumed-is c = refl
 
@@ -420,7 +420,7 @@ apart (a ∷ b ∷ c ∷ d ∷ e ∷ []) = refl
 apart (a ∷ b ∷ c ∷ d ∷ e ∷ f ∷ []) = refl
 apart (a ∷ b ∷ c ∷ d ∷ e ∷ f ∷ g ∷ ts) = refl
 
-restored-by : (c : Call) (g o : ℕ) (w : Granted) (v : Restarted) → drawn c (record { orders = STAY + STOP-306 + UP + TX-INDICATION + planeOf w + startOf v; id = c .id; address = c .address; mode = c .mode; asked = askedOf w (c .asked); code = codeOf v o (c .code); value = g }) ≡ restartedFor v o (given w (restored c)) ▷ tell (Message.TxIndication g)
+restored-by : (c : Call) (g o : ℕ) (w : Granted) (v : Restarted) → draftOf c (record { orders = STAY + STOP-306 + UP + TX-INDICATION + planeOf w + startOf v; id = c .id; address = c .address; mode = c .mode; asked = askedOf w (c .asked); code = codeOf v o (c .code); value = g }) ≡ restartedFor v o (given w (restored c)) ▷ tell (Message.TxIndication g)
 unfolding verbs numbers
 restored-by c g o both anew = rw (swapped (set (c .timers) T306 false) false, apart (set (c .timers) T306 false)) refl
 restored-by c g o both held = rw (swapped (set (c .timers) T306 false) false, apart (set (c .timers) T306 false)) refl
@@ -441,54 +441,54 @@ restored-by c g o neither anew = refl
 restored-by c g o neither held = refl
 restored-by c g o neither not = refl
 
-pub restored-is : (c : Call) (g r o : ℕ) → drawn c (record { orders = STAY + STOP-306 + UP + TX-INDICATION + planeGranted g (c .mode) + restarting r; id = c .id; address = c .address; mode = c .mode; asked = askedAfter g (c .asked); code = codeAfter r o (c .code); value = g }) ≡ restored c ▷ grant g ▷ restart r o ▷ tell (Message.TxIndication g)
+pub restored-is : (c : Call) (g r o : ℕ) → draftOf c (record { orders = STAY + STOP-306 + UP + TX-INDICATION + planeGranted g (c .mode) + restarting r; id = c .id; address = c .address; mode = c .mode; asked = askedAfter g (c .asked); code = codeAfter r o (c .code); value = g }) ≡ restored c ▷ grant g ▷ restart r o ▷ tell (Message.TxIndication g)
 restored-is c g r o =
     rw (plane-is g (c .mode) (eqb (c .mode) 1) refl, asked-is g (c .asked) (eqb (c .mode) 1), restarting-is r o (eqb r 1) (eqb o 16) refl, code-is r o (c .code) (eqb r 1) (eqb o 16) refl refl)
     (restored-by c g o (granting g (eqb (c .mode) 1)) (restartedBy (eqb r 1) (eqb o 16))
     ∙ ap (λ t. restartedFor (restartedBy (eqb r 1) (eqb o 16)) o t ▷ tell (Message.TxIndication g)) (grant-is g (restored c) (eqb (c .mode) 1) (restored-mode c))
     ∙ ap (tell (Message.TxIndication g)) (restart-is r o (grant g (restored c)) (eqb r 1) (eqb o 16) refl refl))
 
-pub broken-again-is : (c : Call) → drawn c (rowOf c (STAY + STOP-306 + BROKEN + OFF) 0) ≡ activeRestoring c Event.Break
+pub broken-again-is : (c : Call) → draftOf c (rowOf c (STAY + STOP-306 + BROKEN + OFF) 0) ≡ activeRestoring c Event.Break
 unfolding verbs numbers activeRestoring
 broken-again-is c = refl
 
 -- WAIT
 
-continued : (c : Call) (b : Bool) → eqb (c .kept) 1 ≡ b → drawn c (rowOf c (CALL-ACTIVE + KEPT-PLANE + TX-INDICATION) 7) ≡ draft c ▷ go State.CallActive ▷ plane (c .kept) ▷ tell (Message.TxIndication 7)
+continued : (c : Call) (b : Bool) → eqb (c .kept) 1 ≡ b → draftOf c (rowOf c (CALL-ACTIVE + KEPT-PLANE + TX-INDICATION) 7) ≡ draft c ▷ go State.CallActive ▷ plane (c .kept) ▷ tell (Message.TxIndication 7)
 unfolding verbs numbers
 continued c true e = rw e refl
 continued c false e = rw e refl
 
-pub continued-is : (c : Call) → drawn c (rowOf c (CALL-ACTIVE + KEPT-PLANE + TX-INDICATION) 7) ≡ draft c ▷ go State.CallActive ▷ plane (c .kept) ▷ tell (Message.TxIndication 7)
+pub continued-is : (c : Call) → draftOf c (rowOf c (CALL-ACTIVE + KEPT-PLANE + TX-INDICATION) 7) ≡ draft c ▷ go State.CallActive ▷ plane (c .kept) ▷ tell (Message.TxIndication 7)
 continued-is c = continued c (eqb (c .kept) 1) refl
 
-pub continued-off-is : (c : Call) → drawn c (rowOf c (CALL-ACTIVE + OFF + TX-INDICATION) 8) ≡ draft c ▷ go State.CallActive ▷ off ▷ tell (Message.TxIndication 8)
+pub continued-off-is : (c : Call) → draftOf c (rowOf c (CALL-ACTIVE + OFF + TX-INDICATION) 8) ≡ draft c ▷ go State.CallActive ▷ off ▷ tell (Message.TxIndication 8)
 unfolding verbs numbers
 continued-off-is c = refl
 
-pub pause-cut-is : (c : Call) → drawn c (rowOf c (CALL-ACTIVE + BROKEN + OFF + TX-INDICATION) 8) ≡ wait c Event.Break
+pub pause-cut-is : (c : Call) → draftOf c (rowOf c (CALL-ACTIVE + BROKEN + OFF + TX-INDICATION) 8) ≡ wait c Event.Break
 unfolding verbs numbers wait
 pause-cut-is c = refl
 
 -- CALL-DISCONNECT
 
-pub disconnected-unsent-is : (c : Call) (i : ℕ) → drawn c (rowNaming c (CANCEL + ENDED + U-RELEASE) i 3) ≡ disconnected i c ▷ cancel
+pub disconnected-unsent-is : (c : Call) (i : ℕ) → draftOf c (rowNaming c (CANCEL + ENDED + U-RELEASE) i 3) ≡ disconnected i c ▷ cancel
 unfolding verbs numbers disconnected
 disconnected-unsent-is c i = refl
 
-pub released-unsent-is : (c : Call) → drawn c (rowOf c (CANCEL + ENDED) 3) ≡ released c ▷ cancel
+pub released-unsent-is : (c : Call) → draftOf c (rowOf c (CANCEL + ENDED) 3) ≡ released c ▷ cancel
 unfolding verbs numbers released
 released-unsent-is c = refl
 
-pub confirmed-is : (c : Call) → drawn c (rowOf c CONFIRMED 0) ≡ draft c ▷ confirmed
+pub confirmed-is : (c : Call) → draftOf c (rowOf c CONFIRMED 0) ≡ draft c ▷ confirmed
 unfolding verbs numbers confirmed
 confirmed-is c = refl
 
-pub confirmed-late-is : (c : Call) → drawn c (rowOf c (EXPIRED-308 + CONFIRMED) 0) ≡ draft c ▷ expired T308 ▷ confirmed
+pub confirmed-late-is : (c : Call) → draftOf c (rowOf c (EXPIRED-308 + CONFIRMED) 0) ≡ draft c ▷ expired T308 ▷ confirmed
 unfolding verbs numbers confirmed
 confirmed-late-is c = refl
 
 -- a timer's row where it runs
-pub timed : (c : Call) (b : Bool) (n : ℕ) (d : Draft) → drawn c (rowAsking c n 0 2) ≡ d → drawn c (cond b (rowAsking c n 0 2) noneRow) ≡ cond b d (noRow c)
+pub timed : (c : Call) (b : Bool) (n : ℕ) (d : Draft) → draftOf c (rowAsking c n 0 2) ≡ d → draftOf c (cond b (rowAsking c n 0 2) noneRow) ≡ cond b d (noRow c)
 timed c true n d e = e
 timed c false n d e = none-is c

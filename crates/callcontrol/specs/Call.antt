@@ -69,13 +69,19 @@ pathNumber Path.Broken = 1
 pathNumber Path.Restoring = 2
 
 abbrev pub isIdle : Call → Bool
-isIdle call = eqb (stateNumber (call .state)) 0
+isIdle call = eqb (stateNumber (call .state)) (stateNumber State.Idle)
 
 abbrev pub isActive : Call → Bool
-isActive call = eqb (stateNumber (call .state)) 3
+isActive call = eqb (stateNumber (call .state)) (stateNumber State.CallActive)
+
+abbrev pub isWait : Call → Bool
+isWait call = eqb (stateNumber (call .state)) (stateNumber State.Wait)
 
 abbrev pub isUp : Call → Bool
-isUp call = eqb (pathNumber (call .path)) 0
+isUp call = eqb (pathNumber (call .path)) (pathNumber Path.Up)
+
+abbrev pub isRestoring : Call → Bool
+isRestoring call = eqb (pathNumber (call .path)) (pathNumber Path.Restoring)
 
 -- a premise and what must then hold
 abbrev pub _⇒_ : Bool → Bool → Bool
@@ -102,7 +108,7 @@ asFresh call =
 
 -- T311 runs exactly when plane is 1; T306 runs exactly when restoring
 unfoldable pub timersAgree : Call → Bool
-timersAgree call = Bool·beq (runs call T311) (eqb (call .plane) 1) && Bool·beq (runs call T306) (eqb (pathNumber (call .path)) 2)
+timersAgree call = Bool·beq (runs call T311) (eqb (call .plane) 1) && Bool·beq (runs call T306) (isRestoring call)
 
 -- the states in which a call may have no identifier
 abbrev pub mayLackId : State → Bool
@@ -118,7 +124,7 @@ mayLackId State.CallDisconnect = true
 unfoldable pub placesAgree : Call → Bool
 placesAgree call =
     (eqb (call .plane) 4 || isActive call && isUp call) && (isUp call || isActive call)
-    && (eqb (call .kept) 4 || eqb (stateNumber (call .state)) 4)
+    && (eqb (call .kept) 4 || isWait call)
     && (leb 1 (call .id) || mayLackId (call .state))
 
 -- what the paper calls sound

@@ -9,8 +9,26 @@ use Rattle.callcontrol.specs.declared.call.State.{State}
 use Rattle.callcontrol.specs.declared.call.Path.{Path}
 use Rattle.callcontrol.specs.declared.call.Call.{Call}
 use Rattle.callcontrol.specs.declared.draft.Slot.{Slot}
-use Rattle.callcontrol.specs.declared.draft.Draft.{Draft}
+use Rattle.callcontrol.specs.declared.draft.Drafted.{Drafted}
 use Rattle.callcontrol.specs.Call.{freshCall, none, runs, T301, T302, T303, T306, T308, T310, T311}
+
+-- a list for each array of flags; and whether there is a row at all
+pub record Draft : Type 0 where
+  pub call : Call
+  pub stops : List Bool
+  pub starts : List Bool
+  pub cancel : Bool
+  pub pdu : Slot
+  -- the plane that CONFIGURE tells, 0 where none is written
+  pub configure : ℕ
+  pub user : Slot
+  pub taken : Bool
+
+-- the code makes one only where there is a row
+abbrev pub asDraft : Drafted → Draft
+asDraft d =
+    record
+    { call = d .call; stops = d .stops; starts = d .starts; cancel = d .cancel; pdu = d .pdu; configure = d .configure; user = d .user; taken = true }
 
 -- a row is read from left to right: a draft, and then what is done to it
 infixl 20 _▷_
@@ -21,19 +39,19 @@ a ▷ f = f a
 unfoldable pub draft : Call → Draft
 draft c =
     record
-    { call = c; stops = none; starts = none; cancel = false; pdu = Slot.Empty; told = 0; user = Slot.Empty; taken = true }
+    { call = c; stops = none; starts = none; cancel = false; pdu = Slot.Empty; configure = 0; user = Slot.Empty; taken = true }
 
 -- no row: the call as it was
 unfoldable pub noRow : Call → Draft
 noRow c =
     record
-    { call = c; stops = none; starts = none; cancel = false; pdu = Slot.Empty; told = 0; user = Slot.Empty; taken = false }
+    { call = c; stops = none; starts = none; cancel = false; pdu = Slot.Empty; configure = 0; user = Slot.Empty; taken = false }
 
 -- the same draft with another call
 abbrev pub with : Draft → Call → Draft
 with d c =
     record
-    { call = c; stops = d .stops; starts = d .starts; cancel = d .cancel; pdu = d .pdu; told = d .told; user = d .user; taken = d .taken }
+    { call = c; stops = d .stops; starts = d .starts; cancel = d .cancel; pdu = d .pdu; configure = d .configure; user = d .user; taken = d .taken }
 
 -- the call with other timers
 abbrev pub timersOf : Draft → List Bool → Call
@@ -100,7 +118,7 @@ stop k d =
       starts = d .starts;
       cancel = d .cancel;
       pdu = d .pdu;
-      told = d .told;
+      configure = d .configure;
       user = d .user;
       taken = d .taken;
     }
@@ -117,7 +135,7 @@ start k d =
       starts = set (d .starts) k true;
       cancel = d .cancel;
       pdu = d .pdu;
-      told = d .told;
+      configure = d .configure;
       user = d .user;
       taken = d .taken;
     }
@@ -136,7 +154,7 @@ restart r o d = cond (eqb r 1) (d ▷ storeCode (cond (eqb o 16) (d .call .code)
 unfoldable pub samePlane : Draft → Draft
 samePlane d =
     record
-    { call = d .call; stops = d .stops; starts = d .starts; cancel = d .cancel; pdu = d .pdu; told = d .call .plane; user = d .user; taken = d .taken }
+    { call = d .call; stops = d .stops; starts = d .starts; cancel = d .cancel; pdu = d .pdu; configure = d .call .plane; user = d .user; taken = d .taken }
 
 -- a plane: plane 1 starts T311, another plane stops it
 unfoldable pub plane : ℕ → Draft → Draft
@@ -164,19 +182,19 @@ grantOrOff g d = cond (eqb g 1 || eqb g 2) (d ▷ grant g ▷ off) (d ▷ grant 
 unfoldable pub cancel : Draft → Draft
 cancel d =
     record
-    { call = d .call; stops = d .stops; starts = d .starts; cancel = true; pdu = d .pdu; told = d .told; user = d .user; taken = d .taken }
+    { call = d .call; stops = d .stops; starts = d .starts; cancel = true; pdu = d .pdu; configure = d .configure; user = d .user; taken = d .taken }
 
 -- the U-PDU
 unfoldable pub say : Message → Draft → Draft
 say m d =
     record
-    { call = d .call; stops = d .stops; starts = d .starts; cancel = d .cancel; pdu = Slot.Holds m; told = d .told; user = d .user; taken = d .taken }
+    { call = d .call; stops = d .stops; starts = d .starts; cancel = d .cancel; pdu = Slot.Holds m; configure = d .configure; user = d .user; taken = d .taken }
 
 -- the user primitive
 unfoldable pub tell : Message → Draft → Draft
 tell m d =
     record
-    { call = d .call; stops = d .stops; starts = d .starts; cancel = d .cancel; pdu = d .pdu; told = d .told; user = Slot.Holds m; taken = d .taken }
+    { call = d .call; stops = d .stops; starts = d .starts; cancel = d .cancel; pdu = d .pdu; configure = d .configure; user = Slot.Holds m; taken = d .taken }
 
 -- the end of a call
 

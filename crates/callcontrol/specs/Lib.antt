@@ -2,5 +2,5 @@ pub mod Call
 pub mod Draft
 pub mod Rows
 pub mod Settle
-pub mod Orders
+pub mod Writing
 pub mod Step

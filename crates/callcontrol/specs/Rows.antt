@@ -9,7 +9,7 @@ use Rattle.records.specs.declared.messages.Message.the-variants.{USetup, UConne
 use Rattle.callcontrol.specs.declared.call.State.{State}
 use Rattle.callcontrol.specs.declared.call.Path.{Path}
 use Rattle.callcontrol.specs.declared.call.Call.{Call}
-use Rattle.callcontrol.specs.declared.draft.Draft.{Draft}
+use Rattle.callcontrol.specs.Draft.{Draft}
 use Rattle.callcontrol.specs.Call.{runs, T301, T302, T303, T306, T308, T310, T311}
 use Rattle.callcontrol.specs.Draft.{_▷_, draft, noRow, go, onPath, storeId, storeAddress, storeMode, storeAsked, storeSent, storeCode, keep, stop, stopAll, start, expired, restart, samePlane, plane, off, grant, grantOrOff, cancel, say, tell, over, release}
 

@@ -1,5 +1,8 @@
 -- What a row's number orders: a row of the code is a sum of orders and the values that it stores, and this is the draft that it stands
 -- for. The contract is in Rows; here is only how the code says it.
+-- The orders stand here once more because a constant of src/ has no name in the definitions: the prover sees its number alone. One that
+-- differed would be refused where its row is held to that of Rows (proofs/Settled). So would a verb on timers that differed from the one
+-- of Draft: here they work on flags alone, as the code does before there is a draft.
 use Prim.Native.Nat.{ℕ, _+_, _/_, _%_}
 use mathlib.Core.Bool.{Bool, true, false, cond, _||_}
 use mathlib.Core.List.{List}
@@ -10,7 +13,7 @@ use Rattle.callcontrol.specs.declared.call.State.{State}
 use Rattle.callcontrol.specs.declared.call.Path.{Path}
 use Rattle.callcontrol.specs.declared.call.Call.{Call}
 use Rattle.callcontrol.specs.declared.draft.Slot.{Slot}
-use Rattle.callcontrol.specs.declared.draft.Draft.{Draft}
+use Rattle.callcontrol.specs.Draft.{Draft}
 use Rattle.callcontrol.specs.declared.row.Row.{Row}
 use Rattle.callcontrol.specs.declared.settle.Timing.{Timing}
 use Rattle.callcontrol.specs.Call.{freshCall, none, T301, T302, T303, T306, T308, T310, T311}
@@ -260,19 +263,19 @@ orderedBy n t =
 
 -- a plane: plane 1 starts T311, another plane stops it; 0 is no plane, and 5 the present one once more
 unfoldable pub planeTimer : ℕ → ℕ → Timing → Timing
-planeTimer p told t =
-    cond (eqb p 0) t (cond (eqb p 5) t (cond (eqb told 1) (startTimer T311 t) (stopTimer T311 t)))
+planeTimer p configure t =
+    cond (eqb p 0) t (cond (eqb p 5) t (cond (eqb configure 1) (startTimer T311 t) (stopTimer T311 t)))
 
 unfoldable pub timingBy : ℕ → List Bool → ℕ → Timing
-timingBy n ts told = timing ts ▷ expiredBy (n / EXPIRED-301 % 16) ▷ orderedBy n ▷ planeTimer (n / PLANE-1 % 16) told
+timingBy n ts configure = timing ts ▷ expiredBy (n / EXPIRED-301 % 16) ▷ orderedBy n ▷ planeTimer (n / PLANE-1 % 16) configure
 
 -- what the call holds then
 
-unfoldable pub toldBy : ℕ → Call → ℕ
-toldBy p c = cond (eqb p 5) (c .plane) (cond (eqb p 6) (c .kept) p)
+unfoldable pub configureBy : ℕ → Call → ℕ
+configureBy p c = cond (eqb p 5) (c .plane) (cond (eqb p 6) (c .kept) p)
 
 unfoldable pub planeBy : ℕ → ℕ → ℕ → ℕ
-planeBy p told held = cond (eqb p 0) held told
+planeBy p configure held = cond (eqb p 0) held configure
 
 unfoldable pub stateBy : ℕ → State → State
 stateBy n held =
@@ -290,9 +293,9 @@ unfoldable pub sentBy : ℕ → ℕ → ℕ
 sentBy n held = cond (eqb n 1) 0 (cond (eqb n 2) 1 held)
 
 unfoldable pub nextBy : Call → Row → ℕ → List Bool → Call
-nextBy c r told ts =
+nextBy c r configure ts =
     cond (eqb (r .orders % 16) 7) freshCall
-    (record { state = stateBy (r .orders % 16) (c .state); id = r .id; address = r .address; mode = r .mode; asked = r .asked; sent = sentBy (r .orders / UNSENT % 16) (c .sent); path = pathBy (r .orders / UP % 16) (c .path); plane = planeBy (r .orders / PLANE-1 % 16) told (c .plane); kept = keptBy (r .orders % 16) c; code = r .code; timers = ts })
+    (record { state = stateBy (r .orders % 16) (c .state); id = r .id; address = r .address; mode = r .mode; asked = r .asked; sent = sentBy (r .orders / UNSENT % 16) (c .sent); path = pathBy (r .orders / UP % 16) (c .path); plane = planeBy (r .orders / PLANE-1 % 16) configure (c .plane); kept = keptBy (r .orders % 16) c; code = r .code; timers = ts })
 
 -- the messages
 
@@ -323,19 +326,19 @@ userBy r =
 unfoldable pub settled : Call → Row → Draft
 settled c r =
     record {
-      call = nextBy c r (toldBy (r .orders / PLANE-1 % 16) c) (timingBy (r .orders) (c .timers) (toldBy (r .orders / PLANE-1 % 16) c) .running);
-      stops = timingBy (r .orders) (c .timers) (toldBy (r .orders / PLANE-1 % 16) c) .stops;
-      starts = timingBy (r .orders) (c .timers) (toldBy (r .orders / PLANE-1 % 16) c) .starts;
+      call = nextBy c r (configureBy (r .orders / PLANE-1 % 16) c) (timingBy (r .orders) (c .timers) (configureBy (r .orders / PLANE-1 % 16) c) .running);
+      stops = timingBy (r .orders) (c .timers) (configureBy (r .orders / PLANE-1 % 16) c) .stops;
+      starts = timingBy (r .orders) (c .timers) (configureBy (r .orders / PLANE-1 % 16) c) .starts;
       cancel = has (r .orders) CANCEL;
       pdu = pduBy r;
-      told = toldBy (r .orders / PLANE-1 % 16) c;
+      configure = configureBy (r .orders / PLANE-1 % 16) c;
       user = userBy r;
       taken = true;
     }
 
 -- 0 is no row
-unfoldable pub drawn : Call → Row → Draft
-drawn c r = cond (eqb (r .orders) 0) (noRow c) (settled c r)
+unfoldable pub draftOf : Call → Row → Draft
+draftOf c r = cond (eqb (r .orders) 0) (noRow c) (settled c r)
 
 -- rows that store little, as the code makes them
 

@@ -12,13 +12,13 @@ use Rattle.records.specs.declared.events.EventRead.{EventRead}
 use Rattle.records.specs.Tables.{Read, taken, refused, read}
 use Rattle.records.specs.Events.{events}
 use Rattle.callcontrol.specs.declared.call.Call.{Call}
-use Rattle.callcontrol.specs.declared.draft.Draft.{Draft}
+use Rattle.callcontrol.specs.Draft.{Draft}
 use Rattle.callcontrol.specs.declared.step.Answer.{Answer}
 use Rattle.callcontrol.specs.declared.step.Named.{Named}
 use Rattle.callcontrol.specs.declared.step.Stepped.{Stepped}
 use Rattle.callcontrol.specs.Call.{sound, isIdle}
 use Rattle.callcontrol.specs.Rows.{rowFor}
-use Rattle.callcontrol.specs.Orders.{orders, bytesOf}
+use Rattle.callcontrol.specs.Writing.{messagesIn, bytesOf}
 
 -- what comes back: the answer's number, the record, the count of bytes written, and the lent buffer then
 pub record Outcome : Type 0 where
@@ -69,8 +69,8 @@ otherCall c e = differs c (namedIn e)
 -- a row's messages into the lent buffer, where they fit
 unfoldable pub carried : Call → Draft → List ℕ → Outcome
 carried c d buffer =
-    cond (leb (length (bytesOf (orders d))) (length buffer))
-    (record { answer = 0; call = d .call; count = length (bytesOf (orders d)); buffer = sets buffer 0 (bytesOf (orders d)) })
+    cond (leb (length (bytesOf (messagesIn d))) (length buffer))
+    (record { answer = 0; call = d .call; count = length (bytesOf (messagesIn d)); buffer = sets buffer 0 (bytesOf (messagesIn d)) })
     (refusal 7 c buffer)
 
 -- an event that was read: 5, 6 and 7

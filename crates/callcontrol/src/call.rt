@@ -1,6 +1,6 @@
 // The call record, and what makes it sound.
 ghost use mathlib.Core.Path.{_≡_};
-ghost use Rattle.callcontrol.specs.Call.{_⇒_, freshCall, isIdle, stateNumber, pathNumber, mayLackId, allStopped, inRange, asFresh, timersAgree, placesAgree, sound};
+ghost use Rattle.callcontrol.specs.Call.{_⇒_, freshCall, isIdle, isActive, isWait, isUp, isRestoring, stateNumber, pathNumber, mayLackId, allStopped, inRange, asFresh, timersAgree, placesAgree, sound};
 
 // Where the call is. The numbers are those of a host's record.
 pub enum State {
@@ -50,6 +50,23 @@ pub struct Call {
     // Which of the timers 301 302 303 306 308 310 311 run.
     pub timers: [bool; 7],
 }
+
+// The places of the timers in a record's array.
+pub const T301: usize = 0;
+
+pub const T302: usize = 1;
+
+pub const T303: usize = 2;
+
+pub const T306: usize = 3;
+
+pub const T308: usize = 4;
+
+pub const T310: usize = 5;
+
+pub const T311: usize = 6;
+
+// The states and paths as numbers, those of a host's record.
 
 pub fn state_number(state: State) -> u8
     ensures { λ r. ⌜ r ≡ stateNumber state ⌝ }
@@ -120,14 +137,42 @@ impl Call {
         ensures { λ r. ⌜ r ≡ isIdle self ⌝ }
     {
         let state = self.state;
-        state_number(state) == 0
+        state_number(state) == state_number(State::Idle)
+    }
+
+    fn is_active(self) -> bool
+        ensures { λ r. ⌜ r ≡ isActive self ⌝ }
+    {
+        let state = self.state;
+        state_number(state) == state_number(State::CallActive)
+    }
+
+    fn is_wait(self) -> bool
+        ensures { λ r. ⌜ r ≡ isWait self ⌝ }
+    {
+        let state = self.state;
+        state_number(state) == state_number(State::Wait)
+    }
+
+    fn is_up(self) -> bool
+        ensures { λ r. ⌜ r ≡ isUp self ⌝ }
+    {
+        let path = self.path;
+        path_number(path) == path_number(Path::Up)
+    }
+
+    fn is_restoring(self) -> bool
+        ensures { λ r. ⌜ r ≡ isRestoring self ⌝ }
+    {
+        let path = self.path;
+        path_number(path) == path_number(Path::Restoring)
     }
 
     fn all_stopped(self) -> bool
         ensures { λ r. ⌜ r ≡ allStopped self ⌝ }
     {
         let t = self.timers;
-        !t[0] & !t[1] & !t[2] & !t[3] & !t[4] & !t[5] & !t[6]
+        !t[T301] & !t[T302] & !t[T303] & !t[T306] & !t[T308] & !t[T310] & !t[T311]
     }
 
     fn in_range(self) -> bool
@@ -149,13 +194,12 @@ impl Call {
     fn as_fresh(self) -> bool
         ensures { λ r. ⌜ r ≡ asFresh self ⌝ }
     {
-        let path = self.path;
         (self.id == 0)
             & (self.address == 0)
             & (self.mode == 0)
             & (self.asked == 0)
             & (self.sent == 0)
-            & (path_number(path) == 0)
+            & self.is_up()
             & (self.plane == Self::OFF)
             & (self.kept == Self::OFF)
             & (self.code == 0)
@@ -167,8 +211,7 @@ impl Call {
         ensures { λ r. ⌜ r ≡ timersAgree self ⌝ }
     {
         let t = self.timers;
-        let path = self.path;
-        (t[6] == (self.plane == 1)) & (t[3] == (path_number(path) == 2))
+        (t[T311] == (self.plane == 1)) & (t[T306] == self.is_restoring())
     }
 
     // Plane is 4 unless CALL-ACTIVE with path up; path is up unless CALL-ACTIVE; kept plane is 4 unless WAIT; identifier 0 only in IDLE,
@@ -177,12 +220,11 @@ impl Call {
         ensures { λ r. ⌜ r ≡ placesAgree self ⌝ }
     {
         let state = self.state;
-        let path = self.path;
-        let s = state_number(state);
-        let p = path_number(path);
-        ((self.plane == Self::OFF) | ((s == 3) & (p == 0)))
-            & ((p == 0) | (s == 3))
-            & ((self.kept == Self::OFF) | (s == 4))
+        let active = self.is_active();
+        let up = self.is_up();
+        ((self.plane == Self::OFF) | (active & up))
+            & (up | active)
+            & ((self.kept == Self::OFF) | self.is_wait())
             & ((1 <= self.id) | may_lack_id(state))
     }
 

@@ -5,17 +5,17 @@ ghost use mathlib.Core.Bool.{cond, _||_};
 ghost use Prim.Native.Nat.{_+_, _≤_};
 ghost use lib.Dec.{eqb};
 ghost use Rattle.callcontrol.specs.Rows.{releasing, released, disconnected, expiry, idle, moCallSetup, mtCallSetup, demands, ceases, informed, cut, activeExpiry, activeUp, asks, activeBroken, activeRestoring, wait, callDisconnect, active, inState, rowFor};
-ghost use Rattle.callcontrol.specs.Settle.{drawn, noneRow, rowAsking, RELEASE, RELEASE-INDICATION, planeGranted, planeOrOff, askedAfter, restarting, codeAfter};
+ghost use Rattle.callcontrol.specs.Settle.{draftOf, noneRow, rowAsking, RELEASE, RELEASE-INDICATION, planeGranted, planeOrOff, askedAfter, restarting, codeAfter};
 use crate::call::Call;
 use crate::call::Path;
 use crate::call::State;
-use crate::draft::T301;
-use crate::draft::T302;
-use crate::draft::T303;
-use crate::draft::T306;
-use crate::draft::T308;
-use crate::draft::T310;
-use crate::draft::T311;
+use crate::call::T301;
+use crate::call::T302;
+use crate::call::T303;
+use crate::call::T306;
+use crate::call::T308;
+use crate::call::T310;
+use crate::call::T311;
 use crate::row::ALERT;
 use crate::row::BROKEN;
 use crate::row::CALL_ACTIVE;
@@ -75,21 +75,21 @@ use records::events::Event;
 
 // RELEASE request where the call is known to the network (14.5.1.3.1).
 fn releasing(call: Call) -> Row
-    ensures { λ r. ⌜ drawn call r ≡ releasing call ⌝ }
+    ensures { λ r. ⌜ draftOf call r ≡ releasing call ⌝ }
 {
     Row::asking(call, RELEASE, 0, 1)
 }
 
 // The network has ended the call (14.5.1.3.3).
 fn released(call: Call) -> Row
-    ensures { λ r. ⌜ drawn call r ≡ released call ⌝ }
+    ensures { λ r. ⌜ draftOf call r ≡ released call ⌝ }
 {
     Row::of(call, ENDED, 3)
 }
 
 // The network ends the call and wants U-RELEASE with the received identifier (14.5.1.3.3).
 fn disconnected(id: u16, call: Call) -> Row
-    ensures { λ r. ⌜ drawn call r ≡ disconnected id call ⌝ }
+    ensures { λ r. ⌜ draftOf call r ≡ disconnected id call ⌝ }
 {
     Row::naming(call, ENDED + U_RELEASE, id, 3)
 }
@@ -106,7 +106,7 @@ fn timed_out(running: bool, expired: u64, call: Call) -> Row
 }
 
 fn expiry(timer: u16, call: Call) -> Row
-    ensures { λ r. ⌜ drawn call r ≡ expiry timer call ⌝ }
+    ensures { λ r. ⌜ draftOf call r ≡ expiry timer call ⌝ }
 {
     let timers = call.timers;
     match timer {
@@ -188,7 +188,7 @@ fn code_after(reset: u8, code: u8, held: u8) -> u8
 }
 
 fn idle(call: Call, event: Event) -> Row
-    ensures { λ r. ⌜ drawn call r ≡ idle call event ⌝ }
+    ensures { λ r. ⌜ draftOf call r ≡ idle call event ⌝ }
 {
     match event {
         // 14.5.1.1.2
@@ -216,7 +216,7 @@ fn idle(call: Call, event: Event) -> Row
 }
 
 fn mo_call_setup(call: Call, event: Event) -> Row
-    ensures { λ r. ⌜ drawn call r ≡ moCallSetup call event ⌝ }
+    ensures { λ r. ⌜ draftOf call r ≡ moCallSetup call event ⌝ }
 {
     match event {
         // 14.5.1.3.1
@@ -280,7 +280,7 @@ fn mo_call_setup(call: Call, event: Event) -> Row
 }
 
 fn mt_call_setup(call: Call, event: Event) -> Row
-    ensures { λ r. ⌜ drawn call r ≡ mtCallSetup call event ⌝ }
+    ensures { λ r. ⌜ draftOf call r ≡ mtCallSetup call event ⌝ }
 {
     let timers = call.timers;
     match event {
@@ -320,7 +320,7 @@ fn mt_call_setup(call: Call, event: Event) -> Row
 
 // The user wants to transmit, with path up (14.5.1.2.1).
 fn demands(call: Call) -> Row
-    ensures { λ r. ⌜ drawn call r ≡ demands call ⌝ }
+    ensures { λ r. ⌜ draftOf call r ≡ demands call ⌝ }
 {
     if call.asked != 0 {
         return Row::none();
@@ -336,7 +336,7 @@ fn demands(call: Call) -> Row
 
 // The user stops, with path up (14.5.1.2.1).
 fn ceases(call: Call) -> Row
-    ensures { λ r. ⌜ drawn call r ≡ ceases call ⌝ }
+    ensures { λ r. ⌜ draftOf call r ≡ ceases call ⌝ }
 {
     if call.plane == 1 {
         return Row::of(call, STAY + U_TX_CEASED + OFF, 0);
@@ -349,7 +349,7 @@ fn ceases(call: Call) -> Row
 
 // D-INFO with path up (14.5.1.2.3).
 fn informed(call: Call, reset: u8, code: u8, mode: u8) -> Row
-    ensures { λ r. ⌜ drawn call r ≡ informed reset code mode call ⌝ }
+    ensures { λ r. ⌜ draftOf call r ≡ informed reset code mode call ⌝ }
 {
     if mode == call.mode {
         return Row {
@@ -388,14 +388,14 @@ fn asked_after_cut(call: Call) -> u8
 
 // BREAK with path up (14.5.1.2.4).
 fn cut(call: Call) -> Row
-    ensures { λ r. ⌜ drawn call r ≡ cut call ⌝ }
+    ensures { λ r. ⌜ draftOf call r ≡ cut call ⌝ }
 {
     Row::asking(call, STAY + BROKEN + OFF, asked_after_cut(call), 0)
 }
 
 // Expiry with path up: T311 ends the transmission (14.5.1.2.1).
 fn active_expiry(timer: u16, call: Call) -> Row
-    ensures { λ r. ⌜ drawn call r ≡ activeExpiry timer call ⌝ }
+    ensures { λ r. ⌜ draftOf call r ≡ activeExpiry timer call ⌝ }
 {
     let timers = call.timers;
     if timer == 311 {
@@ -408,7 +408,7 @@ fn active_expiry(timer: u16, call: Call) -> Row
 }
 
 fn active_up(call: Call, event: Event) -> Row
-    ensures { λ r. ⌜ drawn call r ≡ activeUp call event ⌝ }
+    ensures { λ r. ⌜ draftOf call r ≡ activeUp call event ⌝ }
 {
     match event {
         Event::ReleaseRequest => releasing(call),
@@ -469,7 +469,7 @@ fn asks(call: Call) -> u8
 }
 
 fn active_broken(call: Call, event: Event) -> Row
-    ensures { λ r. ⌜ drawn call r ≡ activeBroken call event ⌝ }
+    ensures { λ r. ⌜ draftOf call r ≡ activeBroken call event ⌝ }
 {
     match event {
         Event::ReleaseRequest => releasing(call),
@@ -495,7 +495,7 @@ fn active_broken(call: Call, event: Event) -> Row
 }
 
 fn active_restoring(call: Call, event: Event) -> Row
-    ensures { λ r. ⌜ drawn call r ≡ activeRestoring call event ⌝ }
+    ensures { λ r. ⌜ draftOf call r ≡ activeRestoring call event ⌝ }
 {
     match event {
         Event::ReleaseRequest => releasing(call),
@@ -529,7 +529,7 @@ fn active_restoring(call: Call, event: Event) -> Row
 }
 
 fn wait(call: Call, event: Event) -> Row
-    ensures { λ r. ⌜ drawn call r ≡ wait call event ⌝ }
+    ensures { λ r. ⌜ draftOf call r ≡ wait call event ⌝ }
 {
     match event {
         Event::ReleaseRequest => releasing(call),
@@ -550,7 +550,7 @@ fn wait(call: Call, event: Event) -> Row
 }
 
 fn call_disconnect(call: Call, event: Event) -> Row
-    ensures { λ r. ⌜ drawn call r ≡ callDisconnect call event ⌝ }
+    ensures { λ r. ⌜ draftOf call r ≡ callDisconnect call event ⌝ }
 {
     match event {
         // 14.5.1.3.5
@@ -597,7 +597,7 @@ fn call_disconnect(call: Call, event: Event) -> Row
 }
 
 fn active(path: Path, call: Call, event: Event) -> Row
-    ensures { λ r. ⌜ drawn call r ≡ active path call event ⌝ }
+    ensures { λ r. ⌜ draftOf call r ≡ active path call event ⌝ }
 {
     match path {
         Path::Up => active_up(call, event),
@@ -607,7 +607,7 @@ fn active(path: Path, call: Call, event: Event) -> Row
 }
 
 fn in_state(state: State, call: Call, event: Event) -> Row
-    ensures { λ r. ⌜ drawn call r ≡ inState state call event ⌝ }
+    ensures { λ r. ⌜ draftOf call r ≡ inState state call event ⌝ }
 {
     let path = call.path;
     match state {
@@ -622,7 +622,7 @@ fn in_state(state: State, call: Call, event: Event) -> Row
 
 // What an event does to a call.
 pub fn row_for(call: Call, event: Event) -> Row
-    ensures { λ r. ⌜ drawn call r ≡ rowFor call event ⌝ }
+    ensures { λ r. ⌜ draftOf call r ≡ rowFor call event ⌝ }
 {
     let state = call.state;
     in_state(state, call, event)

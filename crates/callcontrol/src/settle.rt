@@ -2,19 +2,20 @@
 // states once lives in one function here.
 ghost use mathlib.Core.Path.{_≡_};
 ghost use Prim.Native.Nat.{_<_};
-ghost use Rattle.callcontrol.specs.Settle.{has, timing, expireTimer, stopTimer, startTimer, stopIf, startIf, expiredBy, orderedBy, planeTimer, timingBy, toldBy, planeBy, stateBy, keptBy, pathBy, sentBy, nextBy, pduBy, userBy, settled};
+ghost use Rattle.callcontrol.specs.Draft.{asDraft};
+ghost use Rattle.callcontrol.specs.Settle.{has, timing, expireTimer, stopTimer, startTimer, stopIf, startIf, expiredBy, orderedBy, planeTimer, timingBy, configureBy, planeBy, stateBy, keptBy, pathBy, sentBy, nextBy, pduBy, userBy, settled};
 use crate::call::Call;
 use crate::call::Path;
 use crate::call::State;
-use crate::draft::Draft;
+use crate::call::T301;
+use crate::call::T302;
+use crate::call::T303;
+use crate::call::T306;
+use crate::call::T308;
+use crate::call::T310;
+use crate::call::T311;
+use crate::draft::Drafted;
 use crate::draft::Slot;
-use crate::draft::T301;
-use crate::draft::T302;
-use crate::draft::T303;
-use crate::draft::T306;
-use crate::draft::T308;
-use crate::draft::T310;
-use crate::draft::T311;
 use crate::row::CANCEL;
 use crate::row::EXPIRED_301;
 use crate::row::OFF;
@@ -162,8 +163,8 @@ impl Timing {
     }
 
     // Plane 1 starts T311, another plane stops it; the present plane told once more leaves it as it is.
-    fn with_plane(self, digit: u64, told: u8) -> Self
-        ensures { λ r. ⌜ r ≡ planeTimer digit told self ⌝ }
+    fn with_plane(self, digit: u64, configure: u8) -> Self
+        ensures { λ r. ⌜ r ≡ planeTimer digit configure self ⌝ }
     {
         if digit == 0 {
             return self;
@@ -171,26 +172,26 @@ impl Timing {
         if digit == 5 {
             return self;
         }
-        if told == 1 {
+        if configure == 1 {
             return self.start(T311);
         }
         self.stop(T311)
     }
 }
 
-fn timing_by(orders: u64, timers: [bool; 7], told: u8) -> Timing
-    ensures { λ r. ⌜ r ≡ timingBy orders timers told ⌝ }
+fn timing_by(orders: u64, timers: [bool; 7], configure: u8) -> Timing
+    ensures { λ r. ⌜ r ≡ timingBy orders timers configure ⌝ }
 {
     Timing::new(timers)
         .expired_by(orders / EXPIRED_301 % 16)
         .ordered_by(orders)
-        .with_plane(orders / PLANE_1 % 16, told)
+        .with_plane(orders / PLANE_1 % 16, configure)
 }
 
 // The plane that CONFIGURE tells, 0 for none.
-fn told_by(digit: u64, call: Call) -> u8
+fn configure_by(digit: u64, call: Call) -> u8
     requires { ⌜ digit < 16 ⌝ }
-    ensures { λ r. ⌜ r ≡ toldBy digit call ⌝ }
+    ensures { λ r. ⌜ r ≡ configureBy digit call ⌝ }
 {
     if digit == 5 {
         return call.plane;
@@ -202,10 +203,10 @@ fn told_by(digit: u64, call: Call) -> u8
 }
 
 // The plane then.
-fn plane_by(digit: u64, told: u8, held: u8) -> u8
-    ensures { λ r. ⌜ r ≡ planeBy digit told held ⌝ }
+fn plane_by(digit: u64, configure: u8, held: u8) -> u8
+    ensures { λ r. ⌜ r ≡ planeBy digit configure held ⌝ }
 {
-    if digit == 0 { held } else { told }
+    if digit == 0 { held } else { configure }
 }
 
 fn state_by(digit: u64, held: State) -> State
@@ -257,8 +258,8 @@ fn sent_by(digit: u64, held: u8) -> u8
     held
 }
 
-fn next_by(call: Call, row: Row, told: u8, timers: [bool; 7]) -> Call
-    ensures { λ r. ⌜ r ≡ nextBy call row told timers ⌝ }
+fn next_by(call: Call, row: Row, configure: u8, timers: [bool; 7]) -> Call
+    ensures { λ r. ⌜ r ≡ nextBy call row configure timers ⌝ }
 {
     let n = row.orders;
     let s = call.state;
@@ -276,7 +277,7 @@ fn next_by(call: Call, row: Row, told: u8, timers: [bool; 7]) -> Call
         asked: row.asked,
         sent: sent_by(n / UNSENT % 16, call.sent),
         path,
-        plane: plane_by(n / PLANE_1 % 16, told, call.plane),
+        plane: plane_by(n / PLANE_1 % 16, configure, call.plane),
         kept: kept_by(n % 16, call),
         code: row.code,
         timers,
@@ -326,27 +327,26 @@ fn user_by(row: Row) -> Slot
 }
 
 // The draft that a row stands for.
-pub fn settle(call: Call, row: Row) -> Draft
-    ensures { λ r. ⌜ r ≡ settled call row ⌝ }
+pub fn settle(call: Call, row: Row) -> Drafted
+    ensures { λ r. ⌜ asDraft r ≡ settled call row ⌝ }
 {
     let n = row.orders;
     let timers = call.timers;
-    let told = told_by(n / PLANE_1 % 16, call);
-    let timing = timing_by(n, timers, told);
+    let configure = configure_by(n / PLANE_1 % 16, call);
+    let timing = timing_by(n, timers, configure);
     let running = timing.running;
     let stops = timing.stops;
     let starts = timing.starts;
-    let next = next_by(call, row, told, running);
+    let next = next_by(call, row, configure, running);
     let pdu = pdu_by(row);
     let user = user_by(row);
-    Draft {
+    Drafted {
         call: next,
         stops,
         starts,
         cancel: has(n, CANCEL),
         pdu,
-        told,
+        configure,
         user,
-        taken: true,
     }
 }

@@ -1,12 +1,14 @@
 // The step: an event comes in; the next record and the messages go out, or a refusal that changes nothing.
 ghost use mathlib.Core.Path.{_≡_};
-ghost use Rattle.callcontrol.specs.Step.{namedIn, differs, otherCall, carried, decided, stepOf, asOutcome, unreadAs};
+ghost use Prim.Native.Nat.{_<_};
+ghost use Rattle.callcontrol.specs.Draft.{asDraft};
+ghost use Rattle.callcontrol.specs.Step.{answerNumber, namedIn, differs, otherCall, carried, decided, stepOf, asOutcome, unreadAs};
 use crate::call::Call;
-use crate::draft::Draft;
-use crate::orders::lay_orders;
-use crate::orders::orders_size;
+use crate::draft::Drafted;
 use crate::rows::row_for;
 use crate::settle::settle;
+use crate::writing::lay_messages;
+use crate::writing::messages_size;
 use records::events::Event;
 use records::events::EventRead;
 use records::events::read_event;
@@ -29,6 +31,23 @@ pub enum Answer {
     NoRow,
     // 7: the messages are longer than the lent buffer.
     NoRoom,
+}
+
+// The answer as the paper's number.
+pub fn answer_number(answer: Answer) -> u8
+    ensures { λ r. ⌜ r ≡ answerNumber answer ⌝ }
+    ensures { λ r. ⌜ r < 10 ⌝ }
+{
+    match answer {
+        Answer::Taken => 0,
+        Answer::NotSound => 1,
+        Answer::BadLength => 2,
+        Answer::UnknownKind => 3,
+        Answer::BadBody => 4,
+        Answer::OtherCall => 5,
+        Answer::NoRow => 6,
+        Answer::NoRoom => 7,
+    }
 }
 
 // The answer, the count of bytes written and the next record.
@@ -108,10 +127,10 @@ fn unread(read: EventRead) -> Answer
 }
 
 // A row's messages into the lent buffer: counted first, and stored only where they fit.
-fn carry(call: Call, draft: Draft, buffer: &mut [u8]) -> Stepped
-    ensures { λ r. ⌜ asOutcome r (now (buffer .exit)) ≡ carried call draft (now (buffer .entry)) ⌝ }
+fn carry(call: Call, draft: Drafted, buffer: &mut [u8]) -> Stepped
+    ensures { λ r. ⌜ asOutcome r (now (buffer .exit)) ≡ carried call (asDraft draft) (now (buffer .entry)) ⌝ }
 {
-    let size = orders_size(draft);
+    let size = messages_size(draft);
     if buffer.len() < size {
         return Stepped {
             answer: Answer::NoRoom,
@@ -119,7 +138,7 @@ fn carry(call: Call, draft: Draft, buffer: &mut [u8]) -> Stepped
             call,
         };
     }
-    lay_orders(draft, buffer);
+    lay_messages(draft, buffer);
     let next = draft.call;
     Stepped {
         answer: Answer::Taken,

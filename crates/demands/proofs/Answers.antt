@@ -11,10 +11,10 @@ use Rattle.records.specs.declared.events.Event.{Event}
 use Rattle.records.specs.Tables.{Read, read}
 use Rattle.records.specs.Events.{events}
 use Rattle.callcontrol.specs.declared.call.Call.{Call}
-use Rattle.callcontrol.specs.declared.draft.Draft.{Draft}
+use Rattle.callcontrol.specs.Draft.{Draft}
 use Rattle.callcontrol.specs.Call.{sound}
 use Rattle.callcontrol.specs.Rows.{rowFor}
-use Rattle.callcontrol.specs.Orders.{orders, bytesOf}
+use Rattle.callcontrol.specs.Writing.{messagesIn, bytesOf}
 use Rattle.callcontrol.specs.Step.{Outcome, refusal, otherCall, carried, decided, whenRead, stepOf}
 use Rattle.demands.specs.Runs.{Turn, outcome, takenBy, writtenBy}
 use Rattle.demands.specs.Demands.{wrongLength, noKind, badBody, ofEvent, applies, Answered, Refused, Zero, Taken}
@@ -38,14 +38,14 @@ module _ (c : Call) (buffer : List ℕ) where
       (cond (badBody s) 4
       (cond (ofEvent (λ e. otherCall c e) r) 5
       (cond (ofEvent (λ e. not (rowFor c e .taken)) r) 6
-      (cond (ofEvent (λ e. not (leb (length (bytesOf (orders (rowFor c e)))) (length buffer))) r) 7 0))))))
+      (cond (ofEvent (λ e. not (leb (length (bytesOf (messagesIn (rowFor c e)))) (length buffer))) r) 7 0))))))
   unfolding decided carried
   step-answered false s r v = refl
   step-answered true s r (bad-length l) = rw l
   step-answered true s r (no-kind l k) = rw (l, k)
   step-answered true s r (bad-body l k b) = rw (l, k, b)
   step-answered true s r (is {e} l k b f) =
-      rw (l, k, b) (event-answered (otherCall c e) (rowFor c e .taken) (leb (length (bytesOf (orders (rowFor c e)))) (length buffer)) (rowFor c e))
+      rw (l, k, b) (event-answered (otherCall c e) (rowFor c e .taken) (leb (length (bytesOf (messagesIn (rowFor c e)))) (length buffer)) (rowFor c e))
 
 pub answered : Answered
 unfolding stepOf applies

@@ -12,10 +12,10 @@ use Rattle.callcontrol.specs.declared.call.State.{State}
 use Rattle.callcontrol.specs.declared.call.Path.{Path}
 use Rattle.callcontrol.specs.declared.call.Call.{Call}
 use Rattle.callcontrol.specs.declared.draft.Slot.{Slot}
-use Rattle.callcontrol.specs.declared.draft.Draft.{Draft}
+use Rattle.callcontrol.specs.Draft.{Draft}
 use Rattle.callcontrol.specs.Call.{T301, T302, T303, T306, T308, T310, T311}
 use Rattle.callcontrol.specs.Draft.{_▷_, with, draft, go, onPath, storeId, storeAddress, storeMode, storeAsked, storeSent, storeCode, keep, stop, stopAll, start, expired, restart, samePlane, plane, off, grant, grantOrOff, cancel, say, tell, over, release}
-use Rattle.callcontrol.specs.Orders.{when, held, byNumber, starting, orders}
+use Rattle.callcontrol.specs.Writing.{when, held, byNumber, starting, messagesIn}
 use Rattle.demands.specs.Runs.{toldAfter, lastTold}
 use Rattle.demands.specs.History.{granted}
 
@@ -78,14 +78,14 @@ configured p t user true plain = held-plain p user plain
 configured p t user false plain = held-plain t user plain
 
 -- what the lower layers were last told after a row: what its CONFIGURE tells, or what they were told before
-pub orders-tell : (p : ℕ) (d : Draft) → PlainSlot (d .pdu) → PlainSlot (d .user) → lastTold p (orders d) ≡ cond (eqb (d .told) 0) p (d .told)
-unfolding orders
-orders-tell p d pdu user =
+pub messages-tell : (p : ℕ) (d : Draft) → PlainSlot (d .pdu) → PlainSlot (d .user) → lastTold p (messagesIn d) ≡ cond (eqb (d .configure) 0) p (d .configure)
+unfolding messagesIn
+messages-tell p d pdu user =
     passed p _ _ (byNumber-plain p Message.Stop (d .stops) stop-plain)
     ∙ passed p _ _ (when-plain p (d .cancel) Message.Cancel cancel-plain)
     ∙ passed p _ _ (held-plain p (d .pdu) pdu)
     ∙ passed p _ _ (byNumber-plain p (starting (d .call .code)) (d .starts) (start-plain (d .call .code)))
-    ∙ configured p (d .told) (d .user) (eqb (d .told) 0) user
+    ∙ configured p (d .configure) (d .user) (eqb (d .configure) 0) user
 
 -- ---- what the verbs draw
 
@@ -105,10 +105,10 @@ pub record Facts (was : ℕ) (s : State) (p m k : ℕ) (state : State) (plane mo
 
 -- a draft from a call: the state s, the plane p, the mode m and the kept plane k
 pub record Drawn (c : Call) (s : State) (p m k : ℕ) (d : Draft) : Type 0 where
-  pub is : Facts (c .plane) s p m k (d .call .state) (d .call .plane) (d .call .mode) (d .call .kept) (d .told) (d .pdu) (d .user)
+  pub is : Facts (c .plane) s p m k (d .call .state) (d .call .plane) (d .call .mode) (d .call .kept) (d .configure) (d .pdu) (d .user)
 
 drawn : {c : Call} {s : State} {p m k : ℕ} {d : Draft} → d .call .state ≡ s → d .call .plane ≡ p → d .call .mode ≡ m → d .call .kept ≡ k
-    → Tells (c .plane) p (d .told) → PlainSlot (d .pdu) → PlainSlot (d .user) → Drawn c s p m k d
+    → Tells (c .plane) p (d .configure) → PlainSlot (d .pdu) → PlainSlot (d .user) → Drawn c s p m k d
 drawn state plane mode kept tells pdu user =
     record { is = record { state-is = state; plane-is = plane; mode-is = mode; kept-is = kept; tells = tells; pdu-plain = pdu; user-plain = user } }
 

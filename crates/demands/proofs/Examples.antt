@@ -10,11 +10,11 @@ use Rattle.records.specs.Laws.{every}
 use Rattle.callcontrol.specs.Call.{allStopped, inRange, asFresh, timersAgree, placesAgree, sound}
 use Rattle.callcontrol.specs.Draft.{draft, noRow, go, onPath, storeId, storeAddress, storeMode, storeAsked, storeSent, storeCode, keep, stop, start, samePlane, plane, off, grant, grantOrOff, say, tell}
 use Rattle.callcontrol.specs.Rows.{idle, moCallSetup, mtCallSetup, cut, activeUp, asks, activeBroken, wait, active, inState, rowFor}
-use Rattle.callcontrol.specs.Orders.{byNumber, starting, orders, bytesOf}
+use Rattle.callcontrol.specs.Writing.{byNumber, starting, messagesIn, bytesOf}
 use Rattle.callcontrol.specs.Step.{otherCall, carried, decided, stepOf}
 use Rattle.demands.specs.Runs.{outcome}
 use Rattle.demands.specs.Examples.{right, examples}
 
 pub checked : every right examples ≡ true
-unfolding within isTimer number bytes valueAt valuesAt kindIn bodyOf bodyBytes flatSize flatBytes readBody readAs read messageBytes allStopped inRange asFresh timersAgree placesAgree sound draft noRow go onPath storeId storeAddress storeMode storeAsked storeSent storeCode keep stop start samePlane plane off grant grantOrOff say tell idle moCallSetup mtCallSetup cut activeUp asks activeBroken wait active inState rowFor byNumber starting orders bytesOf otherCall carried decided stepOf outcome
+unfolding within isTimer number bytes valueAt valuesAt kindIn bodyOf bodyBytes flatSize flatBytes readBody readAs read messageBytes allStopped inRange asFresh timersAgree placesAgree sound draft noRow go onPath storeId storeAddress storeMode storeAsked storeSent storeCode keep stop start samePlane plane off grant grantOrOff say tell idle moCallSetup mtCallSetup cut activeUp asks activeBroken wait active inState rowFor byNumber starting messagesIn bytesOf otherCall carried decided stepOf outcome
 checked = refl

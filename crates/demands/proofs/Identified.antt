@@ -10,7 +10,7 @@ use Rattle.records.specs.declared.events.Event.{Event}
 use Rattle.callcontrol.specs.declared.call.State.{State}
 use Rattle.callcontrol.specs.declared.call.Path.{Path}
 use Rattle.callcontrol.specs.declared.call.Call.{Call}
-use Rattle.callcontrol.specs.declared.draft.Draft.{Draft}
+use Rattle.callcontrol.specs.Draft.{Draft}
 use Rattle.callcontrol.specs.Call.{freshCall, stateNumber, isIdle}
 use Rattle.callcontrol.specs.Draft.{draft, go, restart, plane, grant, grantOrOff}
 use Rattle.callcontrol.specs.Rows

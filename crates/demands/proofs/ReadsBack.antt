@@ -17,7 +17,7 @@ use Rattle.records.specs.Messages.{messages, messageBytes}
 use Rattle.records.proofs.RoundTrip.{message-written-reads-back}
 use Rattle.callcontrol.specs.declared.call.Call.{Call}
 use Rattle.callcontrol.specs.Rows.{rowFor}
-use Rattle.callcontrol.specs.Orders.{orders, bytesOf}
+use Rattle.callcontrol.specs.Writing.{messagesIn, bytesOf}
 use Rattle.demands.specs.Runs.{Turn, outcome, writtenBy, every?}
 use Rattle.demands.specs.Demands.{Reads, ReadsBack}
 use Rattle.demands.proofs.Facts.{left, right}
@@ -70,7 +70,7 @@ counted : (c : Call) (t : Turn) → Turned c t → every? (λ m. fine messages m
 unfolding writtenBy
 counted c t (passed p) h = rw (p .gives, p .takes)
 counted c t (took e a) h =
-    rw (a .gives, a .takes, stored (bytesOf (orders (rowFor c e))) (t .buffer) (a .room)) (read-after-read (orders (rowFor c e)) (rw (a .takes) at h))
+    rw (a .gives, a .takes, stored (bytesOf (messagesIn (rowFor c e))) (t .buffer) (a .room)) (read-after-read (messagesIn (rowFor c e)) (rw (a .takes) at h))
 
 pub reads-back : ReadsBack
 reads-back c t k = counted c t (turned c t) (step-in-range c t k)

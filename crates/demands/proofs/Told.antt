@@ -13,10 +13,10 @@ use Rattle.records.specs.Tables.{fine}
 use Rattle.records.specs.Events.{events}
 use Rattle.callcontrol.specs.declared.call.State.{State}
 use Rattle.callcontrol.specs.declared.call.Call.{Call}
-use Rattle.callcontrol.specs.declared.draft.Draft.{Draft}
+use Rattle.callcontrol.specs.Draft.{Draft}
 use Rattle.callcontrol.specs.Call.{freshCall}
 use Rattle.callcontrol.specs.Rows.{rowFor}
-use Rattle.callcontrol.specs.Orders.{orders}
+use Rattle.callcontrol.specs.Writing.{messagesIn}
 use Rattle.demands.specs.Runs.{Turn, next, run, takenBy, messagesOf, writtenBy, listed, takenIn, writtenIn, lastTold, told}
 use Rattle.demands.specs.History.{History, atFirst, note, reads, planeByHistory}
 use Rattle.demands.specs.Demands.{Kept, Told}
@@ -24,7 +24,7 @@ use Rattle.demands.proofs.Reading.{read-fine}
 use Rattle.demands.proofs.Turns.{Turned, passed, took, turned}
 use Rattle.demands.proofs.Sound.{fresh-is-sound, keeps-sound}
 use Rattle.demands.proofs.Places.{plane-some}
-use Rattle.demands.proofs.Drawn.{Tells, silent, loud, lastTold-append, orders-tell}
+use Rattle.demands.proofs.Drawn.{Tells, silent, loud, lastTold-append, messages-tell}
 use Rattle.demands.proofs.Follows.{Fits, Agrees, Lands, follows}
 
 -- a plane that is told is some plane, so that 0 stands for no CONFIGURE
@@ -33,8 +33,8 @@ tells-plane (silent e) least = e
 tells-plane {plane} loud least = let other : eqb plane 0 ≡ false = ne-eqb plane 0 (λ e. omega arith) in rw other
 
 -- what a row tells is the plane that it leaves
-row-tells : {c : Call} {h : History} {d : Draft} → Lands c h d → 1 ≤ d .call .plane → lastTold (c .plane) (orders d) ≡ d .call .plane
-row-tells {c} {h} {d} l least = orders-tell (c .plane) d (l .pdu-plain) (l .user-plain) ∙ tells-plane (l .tells) least
+row-tells : {c : Call} {h : History} {d : Draft} → Lands c h d → 1 ≤ d .call .plane → lastTold (c .plane) (messagesIn d) ≡ d .call .plane
+row-tells {c} {h} {d} l least = messages-tell (c .plane) d (l .pdu-plain) (l .user-plain) ∙ tells-plane (l .tells) least
 
 fits-plane : (s : State) (p m k : ℕ) (h : History) → Fits s p m k h → p ≡ h .plane
 fits-plane State.Idle p m k h f = f

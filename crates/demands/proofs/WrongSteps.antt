@@ -12,7 +12,7 @@ use Rattle.records.specs.Messages.{messageBytes}
 use Rattle.callcontrol.specs.Call.{freshCall, allStopped, inRange, asFresh, timersAgree, placesAgree, sound}
 use Rattle.callcontrol.specs.Draft.{draft, go, storeAddress, storeMode, storeAsked, start, say}
 use Rattle.callcontrol.specs.Rows.{idle, inState, rowFor}
-use Rattle.callcontrol.specs.Orders.{byNumber, starting, orders, bytesOf}
+use Rattle.callcontrol.specs.Writing.{byNumber, starting, messagesIn, bytesOf}
 use Rattle.callcontrol.specs.Step.{Outcome, otherCall, carried, decided, stepOf}
 use Rattle.demands.specs.Examples.{setupRequest}
 use Rattle.demands.specs.WrongSteps.{Step, Promise, refusesAll, singleAnswer, writesNothing, firstOnly, countsMore}
@@ -36,7 +36,7 @@ record Facts : Type 0 where
   zero : second firstOnly .answer ≡ 0
 
 facts : Facts
-unfolding within number bytes valueAt valuesAt kindIn bodyOf bodyBytes flatSize flatBytes readBody readAs read messageBytes allStopped inRange asFresh timersAgree placesAgree sound draft go storeAddress storeMode storeAsked start say idle inState rowFor byNumber starting orders bytesOf otherCall carried decided stepOf
+unfolding within number bytes valueAt valuesAt kindIn bodyOf bodyBytes flatSize flatBytes readBody readAs read messageBytes allStopped inRange asFresh timersAgree placesAgree sound draft go storeAddress storeMode storeAsked start say idle inState rowFor byNumber starting messagesIn bytesOf otherCall carried decided stepOf
 facts = record { answer = refl; count = refl; more = refl; short = refl; zero = refl }
 
 -- a step that meets the promise gives what the step gives

@@ -21,7 +21,7 @@ use Rattle.callcontrol.specs.declared.call.Path.{Path}
 use Rattle.callcontrol.specs.declared.call.Call.{Call}
 use Rattle.callcontrol.specs.Call.{freshCall, sound, runs, isIdle, T310}
 use Rattle.callcontrol.specs.Rows.{rowFor}
-use Rattle.callcontrol.specs.Orders.{orders, bytesOf}
+use Rattle.callcontrol.specs.Writing.{messagesIn, bytesOf}
 use Rattle.callcontrol.specs.Step.{refusal, stepOf, otherCall}
 use Rattle.demands.specs.Runs.{Turn, outcome, next, run, takenBy, takenIn, writtenBy, writtenIn, every?, told, ends}
 use Rattle.demands.specs.History.{planeByHistory, idByHistory}
@@ -62,7 +62,7 @@ applies n c bytes buffer =
     (cond (eqb n 4) (badBody bytes)
     (cond (eqb n 5) (ofEvent (λ e. otherCall c e) (read events bytes))
     (cond (eqb n 6) (ofEvent (λ e. not (rowFor c e .taken)) (read events bytes))
-    (cond (eqb n 7) (ofEvent (λ e. not (leb (length (bytesOf (orders (rowFor c e)))) (length buffer))) (read events bytes)) false))))))
+    (cond (eqb n 7) (ofEvent (λ e. not (leb (length (bytesOf (messagesIn (rowFor c e)))) (length buffer))) (read events bytes)) false))))))
 
 -- the first of some numbers that applies, 0 if none does
 abbrev pub first : (ℕ → Bool) → List ℕ → ℕ

@@ -12,7 +12,7 @@ use Rattle.records.specs.Events.{events}
 use Rattle.callcontrol.specs.declared.call.Call.{Call}
 use Rattle.callcontrol.specs.Call.{freshCall}
 use Rattle.callcontrol.specs.Rows.{rowFor}
-use Rattle.callcontrol.specs.Orders.{orders}
+use Rattle.callcontrol.specs.Writing.{messagesIn}
 use Rattle.callcontrol.specs.Step.{Outcome, stepOf}
 
 -- any bytes handed in, any buffer lent
@@ -43,7 +43,7 @@ takenBy c t = cond (eqb (outcome c t .answer) 0) (eventIn (read events (t .event
 -- the messages that a turn writes: those whose bytes the step's promise stores
 abbrev pub messagesOf : Call → Option Event → List Message
 messagesOf c none = []
-messagesOf c (some e) = orders (rowFor c e)
+messagesOf c (some e) = messagesIn (rowFor c e)
 
 unfoldable pub writtenBy : Call → Turn → List Message
 writtenBy c t = messagesOf c (takenBy c t)

@@ -16,13 +16,13 @@ use Rattle.records.specs.Events.{events}
 use Rattle.records.specs.Laws.{every, Lawful}
 use Rattle.records.proofs.Laws.{length-flatBytes}
 use Rattle.callcontrol.specs.declared.call.Call.{Call}
-use Rattle.callcontrol.specs.declared.draft.Draft.{Draft}
+use Rattle.callcontrol.specs.Draft.{Draft}
 use Rattle.callcontrol.specs.declared.draft.Slot.{Slot}
 use Rattle.callcontrol.specs.Call.{sound}
 use Rattle.callcontrol.specs.Rows.{rowFor}
-use Rattle.callcontrol.specs.Orders.{held, orders, bytesOf, countOf}
+use Rattle.callcontrol.specs.Writing.{held, messagesIn, bytesOf, countOf}
 use Rattle.callcontrol.specs.Step.{Outcome, refusal, otherCall, carried, decided, whenRead, stepOf}
-use Rattle.callcontrol.proofs.Laying.{size-one, size-bound, size-orders}
+use Rattle.callcontrol.proofs.Laying.{size-one, size-bound, size-messages}
 use Rattle.host.specs.Entries.{wroteWord}
 use Rattle.demands.proofs.Facts.{left, right}
 
@@ -43,10 +43,10 @@ unfolding bytesOf
 held-small Slot.Empty = lit≤ tt
 held-small (Slot.Holds m) = omega (arith, size-one m, size-bound m)
 
-orders-small : (d : Draft) → length (bytesOf (orders d)) ≤ 122
-orders-small d =
+messages-small : (d : Draft) → length (bytesOf (messagesIn d)) ≤ 122
+messages-small d =
     omega
-    (arith, size-orders d, seven (d .stops), seven (d .starts), held-small (d .pdu), held-small (d .user), at-most (d .cancel) 4, at-most (not (eqb (d .told) 0)) 5)
+    (arith, size-messages d, seven (d .stops), seven (d .starts), held-small (d .pdu), held-small (d .user), at-most (d .cancel) 4, at-most (not (eqb (d .configure) 0)) 5)
 
 record Few (o : Outcome) : Type 0 where
   few : o .count ≤ 122
@@ -63,7 +63,7 @@ unfolding decided carried
 read-few (taken e) c b =
     either (otherCall c e) none
     (either (rowFor c e .taken)
-    (either (leb (length (bytesOf (orders (rowFor c e)))) (length b)) (record { few = orders-small (rowFor c e) }) none)
+    (either (leb (length (bytesOf (messagesIn (rowFor c e)))) (length b)) (record { few = messages-small (rowFor c e) }) none)
     none)
 read-few (refused n) c b = none
 

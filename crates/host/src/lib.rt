@@ -6,7 +6,6 @@ ghost use Prim.Native.Nat.{ℕ, _<_, _^_};
 ghost use Rattle.records.specs.Bodies.{asWrote};
 ghost use Rattle.records.specs.Events.{events, asEventRead};
 ghost use Rattle.records.specs.Messages.{messages, asMessageRead};
-ghost use Rattle.callcontrol.specs.Step.{answerNumber};
 ghost use Rattle.host.specs.Entries.{Left, freshened, hostStep, readWord, wroteWord, checked, copied};
 
 mod packed;
@@ -15,7 +14,7 @@ use crate::packed::held;
 use crate::packed::is_record;
 use crate::packed::pack;
 use callcontrol::call::Call;
-use callcontrol::step::Answer;
+use callcontrol::step::answer_number;
 use callcontrol::step::step;
 use records::bodies::Written;
 use records::events::EventRead;
@@ -24,22 +23,6 @@ use records::events::write_event;
 use records::messages::MessageRead;
 use records::messages::read_message;
 use records::messages::write_message;
-
-fn answer_number(answer: Answer) -> u32
-    ensures { λ r. ⌜ r ≡ answerNumber answer ⌝ }
-    ensures { λ r. ⌜ r < 8 ⌝ }
-{
-    match answer {
-        Answer::Taken => 0,
-        Answer::NotSound => 1,
-        Answer::BadLength => 2,
-        Answer::UnknownKind => 3,
-        Answer::BadBody => 4,
-        Answer::OtherCall => 5,
-        Answer::NoRow => 6,
-        Answer::NoRoom => 7,
-    }
-}
 
 fn event_word(read: EventRead) -> u32
     ensures { λ r. ⌜ r ≡ readWord (asEventRead read) ⌝ }
@@ -97,7 +80,7 @@ pub extern "C" fn callcontrol_step(call: &mut [u8], event: &[u8], out: &mut [u8]
     let stepped = step(held(call), event, out);
     let answer = stepped.answer;
     let next = stepped.call;
-    let number = answer_number(answer);
+    let number = answer_number(answer) as u32;
     let result = number * 65536 + stepped.count as u32;
     if number == 0 {
         pack(next, call);

@@ -8,6 +8,13 @@ ghost use Rattle.host.specs.Packing.{names, settings, running, packed, s
 use callcontrol::call::Call;
 use callcontrol::call::Path;
 use callcontrol::call::State;
+use callcontrol::call::T301;
+use callcontrol::call::T302;
+use callcontrol::call::T303;
+use callcontrol::call::T306;
+use callcontrol::call::T308;
+use callcontrol::call::T310;
+use callcontrol::call::T311;
 use callcontrol::call::path_number;
 use callcontrol::call::state_number;
 
@@ -162,13 +169,13 @@ fn put_running(call: Call, s: &mut [u8])
     ensures { λ _. ⌜ now (s .exit) ≡ sets (now (s .entry)) 14 (running call) ⌝ }
 {
     let t = call.timers;
-    s[14] = flag(t[0]);
-    s[15] = flag(t[1]);
-    s[16] = flag(t[2]);
-    s[17] = flag(t[3]);
-    s[18] = flag(t[4]);
-    s[19] = flag(t[5]);
-    s[20] = flag(t[6]);
+    s[14] = flag(t[T301]);
+    s[15] = flag(t[T302]);
+    s[16] = flag(t[T303]);
+    s[17] = flag(t[T306]);
+    s[18] = flag(t[T308]);
+    s[19] = flag(t[T310]);
+    s[20] = flag(t[T311]);
 }
 
 // A call into a record's bytes.

@@ -17,6 +17,7 @@ callcontrol-step-spec =
     (λ c κs. search needs)
     (λ c κs. search needs)
     (λ c. search needs)
+    (λ c. search needs)
     (λ c. omega (arith, step-small _ _ _ (c .before .before .before .before .before .step .ensures)))
     (λ c. omega (arith, step-small _ _ _ (c .before .before .before .before .before .step .ensures)))
     (λ c κs.

@@ -15,4 +15,4 @@ settle-spec =
     (λ c. search needs)
     (λ c. search needs)
     (λ c. search needs)
-    (λ c. rw (c .has .ensures, c .before .user-by .ensures, c .before .before .pdu-by .ensures, c .before .before .before .next-by .ensures, c .before .before .before .before .before .before .before .timing-by .ensures, c .before .before .before .before .before .before .before .before .told-by .ensures)))
+    (λ c. rw (c .has .ensures, c .before .user-by .ensures, c .before .before .pdu-by .ensures, c .before .before .before .next-by .ensures, c .before .before .before .before .before .before .before .timing-by .ensures, c .before .before .before .before .before .before .before .before .configure-by .ensures)))

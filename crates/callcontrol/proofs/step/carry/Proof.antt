@@ -1,6 +1,7 @@
 -- The messages are counted, and laid where they fit.
 use borrow.Author.Needs.{needs}
 use denote.Ref.{now}
+use Rattle.callcontrol.specs.Draft.{asDraft}
 use Rattle.callcontrol.proofs.Carried.{too-long, fitting}
 use Rattle.callcontrol.proofs.step.carry.Statement.{statement}
 use Rattle.callcontrol.proofs.step.carry.Tie as tie
@@ -12,10 +13,10 @@ carry-spec =
     (λ c κs. search needs)
     (λ c.
     let a = c .before .before .before .args in
-    too-long (a .call) (a .draft) (now (a .buffer)) _ (c .before .orders-size .ensures) (c .if1 .taken))
+    too-long (a .call) (asDraft (a .draft)) (now (a .buffer)) _ (c .before .messages-size .ensures) (c .if1 .taken))
     (λ c κs. search needs)
     (λ c. search needs)
     (λ c.
     let s = c .before .before .before .before .before in
     let a = s .before .before .before .args in
-    fitting (a .call) (a .draft) (now (a .buffer)) _ _ _ (s .before .orders-size .ensures) (s .if1 .left) (c .before .before .before .lay-orders .ensures)))
+    fitting (a .call) (asDraft (a .draft)) (now (a .buffer)) _ _ _ (s .before .messages-size .ensures) (s .if1 .left) (c .before .before .before .lay-messages .ensures)))

@@ -12,10 +12,10 @@ use Rattle.records.specs.declared.events.Event.{Event}
 use Rattle.records.specs.Tables.{Read, taken, refused, read}
 use Rattle.records.specs.Events.{events}
 use Rattle.callcontrol.specs.declared.call.Call.{Call}
-use Rattle.callcontrol.specs.declared.draft.Draft.{Draft}
+use Rattle.callcontrol.specs.Draft.{Draft}
 use Rattle.callcontrol.specs.Call.{sound}
 use Rattle.callcontrol.specs.Rows.{rowFor}
-use Rattle.callcontrol.specs.Orders.{orders, bytesOf}
+use Rattle.callcontrol.specs.Writing.{messagesIn, bytesOf}
 use Rattle.callcontrol.specs.Step.{Outcome, otherCall, carried, decided, whenRead, stepOf}
 use Rattle.calltrace.proofs.block.turn.Statement.{statement}
 use Rattle.calltrace.proofs.block.turn.Tie as tie
@@ -34,7 +34,7 @@ Counts buffer o = o .count ≤ length buffer
 
 carried-count : (c : Call) (d : Draft) (buffer : List ℕ) → Counts buffer (carried c d buffer)
 unfolding carried
-carried-count c d buffer = within (length (bytesOf (orders d))) (length buffer) _ _ _ refl refl zero-le
+carried-count c d buffer = within (length (bytesOf (messagesIn d))) (length buffer) _ _ _ refl refl zero-le
 
 decided-count : (c : Call) (e : Event) (buffer : List ℕ) → Counts buffer (decided c e buffer)
 unfolding decided

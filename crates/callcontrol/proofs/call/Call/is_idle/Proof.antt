@@ -1,4 +1,4 @@
--- The state's number.
+-- The two numbers are the states'.
 use borrow.Author.Needs.{needs}
 use Rattle.callcontrol.proofs.call.Call.is_idle.Statement.{statement}
 use Rattle.callcontrol.proofs.call.Call.is_idle.Tie as tie
@@ -8,4 +8,5 @@ is-idle-spec =
     tie.close
     (tie.spec
     (λ c κs. search needs)
-    (λ c. rw (c .state-number .ensures)))
+    (λ c κs. search needs)
+    (λ c. rw (c .before .state-number .ensures, c .state-number2 .ensures)))

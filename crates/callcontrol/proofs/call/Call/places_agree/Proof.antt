@@ -12,4 +12,5 @@ places-agree-spec =
     (λ c κs. search needs)
     (λ c κs. search needs)
     (λ c κs. search needs)
-    (λ c. rw (c .may-lack-id .ensures, c .before .before .before .before .path-number .ensures, c .before .before .before .before .before .state-number .ensures)))
+    (λ c κs. search needs)
+    (λ c. rw (c .may-lack-id .ensures, c .before .before .is-wait .ensures, c .before .before .before .before .before .is-up .ensures, c .before .before .before .before .before .before .is-active .ensures)))

@@ -12,4 +12,4 @@ timers-agree-spec =
     (λ c. search needs)
     (λ c. search needs)
     (λ c κs. search needs)
-    (λ c. rw (c .path-number .ensures)))
+    (λ c. rw (c .is-restoring .ensures)))

@@ -4,8 +4,16 @@ ghost use mathlib.Core.Bool.{cond};
 ghost use Prim.Native.Nat.{_≤_};
 ghost use lib.ListN.{length};
 ghost use Rattle.records.specs.declared.messages.Message.{Message};
-ghost use Rattle.callcontrol.specs.Orders.{when, held, byNumber, starting, orders, bytesOf, Laid, countOf};
-use crate::draft::Draft;
+ghost use Rattle.callcontrol.specs.Draft.{asDraft};
+ghost use Rattle.callcontrol.specs.Writing.{when, held, byNumber, starting, messagesIn, bytesOf, Laid, countOf};
+use crate::call::T301;
+use crate::call::T302;
+use crate::call::T303;
+use crate::call::T306;
+use crate::call::T308;
+use crate::call::T310;
+use crate::call::T311;
+use crate::draft::Drafted;
 use crate::draft::Slot;
 use records::messages::Message;
 use records::messages::lay_message;
@@ -55,13 +63,13 @@ fn lay_stops(flags: [bool; 7], buffer: &mut [u8], at: usize) -> usize
     if count_of(flags) == 0 {
         return at;
     }
-    let at = lay_when(flags[0], Message::Stop { timer: 301 }, buffer, at);
-    let at = lay_when(flags[1], Message::Stop { timer: 302 }, buffer, at);
-    let at = lay_when(flags[2], Message::Stop { timer: 303 }, buffer, at);
-    let at = lay_when(flags[3], Message::Stop { timer: 306 }, buffer, at);
-    let at = lay_when(flags[4], Message::Stop { timer: 308 }, buffer, at);
-    let at = lay_when(flags[5], Message::Stop { timer: 310 }, buffer, at);
-    lay_when(flags[6], Message::Stop { timer: 311 }, buffer, at)
+    let at = lay_when(flags[T301], Message::Stop { timer: 301 }, buffer, at);
+    let at = lay_when(flags[T302], Message::Stop { timer: 302 }, buffer, at);
+    let at = lay_when(flags[T303], Message::Stop { timer: 303 }, buffer, at);
+    let at = lay_when(flags[T306], Message::Stop { timer: 306 }, buffer, at);
+    let at = lay_when(flags[T308], Message::Stop { timer: 308 }, buffer, at);
+    let at = lay_when(flags[T310], Message::Stop { timer: 310 }, buffer, at);
+    lay_when(flags[T311], Message::Stop { timer: 311 }, buffer, at)
 }
 
 fn lay_starts(flags: [bool; 7], code: u8, buffer: &mut [u8], at: usize) -> usize
@@ -71,7 +79,7 @@ fn lay_starts(flags: [bool; 7], code: u8, buffer: &mut [u8], at: usize) -> usize
         return at;
     }
     let at = lay_when(
-        flags[0],
+        flags[T301],
         Message::Start {
             timer: 301,
             code: 0,
@@ -80,7 +88,7 @@ fn lay_starts(flags: [bool; 7], code: u8, buffer: &mut [u8], at: usize) -> usize
         at,
     );
     let at = lay_when(
-        flags[1],
+        flags[T302],
         Message::Start {
             timer: 302,
             code: 0,
@@ -89,7 +97,7 @@ fn lay_starts(flags: [bool; 7], code: u8, buffer: &mut [u8], at: usize) -> usize
         at,
     );
     let at = lay_when(
-        flags[2],
+        flags[T303],
         Message::Start {
             timer: 303,
             code: 0,
@@ -98,7 +106,7 @@ fn lay_starts(flags: [bool; 7], code: u8, buffer: &mut [u8], at: usize) -> usize
         at,
     );
     let at = lay_when(
-        flags[3],
+        flags[T306],
         Message::Start {
             timer: 306,
             code: 0,
@@ -107,7 +115,7 @@ fn lay_starts(flags: [bool; 7], code: u8, buffer: &mut [u8], at: usize) -> usize
         at,
     );
     let at = lay_when(
-        flags[4],
+        flags[T308],
         Message::Start {
             timer: 308,
             code: 0,
@@ -115,9 +123,9 @@ fn lay_starts(flags: [bool; 7], code: u8, buffer: &mut [u8], at: usize) -> usize
         buffer,
         at,
     );
-    let at = lay_when(flags[5], Message::Start { timer: 310, code }, buffer, at);
+    let at = lay_when(flags[T310], Message::Start { timer: 310, code }, buffer, at);
     lay_when(
-        flags[6],
+        flags[T311],
         Message::Start {
             timer: 311,
             code: 0,
@@ -128,20 +136,25 @@ fn lay_starts(flags: [bool; 7], code: u8, buffer: &mut [u8], at: usize) -> usize
 }
 
 // STOPs by rising number, CANCEL, U-PDU, STARTs by rising number, CONFIGURE, user primitive.
-pub fn lay_orders(draft: Draft, buffer: &mut [u8]) -> usize
-    ensures { λ r. ⌜ Laid (now (buffer .entry)) 0 (orders draft) r (now (buffer .exit)) ⌝ }
+pub fn lay_messages(draft: Drafted, buffer: &mut [u8]) -> usize
+    ensures { λ r. ⌜ Laid (now (buffer .entry)) 0 (messagesIn (asDraft draft)) r (now (buffer .exit)) ⌝ }
 {
     let stops = draft.stops;
     let starts = draft.starts;
     let pdu = draft.pdu;
     let user = draft.user;
-    let told = draft.told;
+    let configure = draft.configure;
     let code = draft.call.code;
     let at = lay_stops(stops, buffer, 0);
     let at = lay_when(draft.cancel, Message::Cancel, buffer, at);
     let at = lay_held(pdu, buffer, at);
     let at = lay_starts(starts, code, buffer, at);
-    let at = lay_when(told != 0, Message::Configure { plane: told }, buffer, at);
+    let at = lay_when(
+        configure != 0,
+        Message::Configure { plane: configure },
+        buffer,
+        at,
+    );
     lay_held(user, buffer, at)
 }
 
@@ -150,18 +163,18 @@ fn count_of(flags: [bool; 7]) -> usize
     ensures { λ r. ⌜ r ≡ countOf flags ⌝ }
     ensures { λ r. ⌜ r ≤ 7 ⌝ }
 {
-    size_when(flags[0], 1)
-        + size_when(flags[1], 1)
-        + size_when(flags[2], 1)
-        + size_when(flags[3], 1)
-        + size_when(flags[4], 1)
-        + size_when(flags[5], 1)
-        + size_when(flags[6], 1)
+    size_when(flags[T301], 1)
+        + size_when(flags[T302], 1)
+        + size_when(flags[T303], 1)
+        + size_when(flags[T306], 1)
+        + size_when(flags[T308], 1)
+        + size_when(flags[T310], 1)
+        + size_when(flags[T311], 1)
 }
 
 // How many bytes the messages take: a STOP takes 6, a START 7, CANCEL 4 and CONFIGURE 5.
-pub fn orders_size(draft: Draft) -> usize
-    ensures { λ r. ⌜ r ≡ length (bytesOf (orders draft)) ⌝ }
+pub fn messages_size(draft: Drafted) -> usize
+    ensures { λ r. ⌜ r ≡ length (bytesOf (messagesIn (asDraft draft))) ⌝ }
 {
     let stops = draft.stops;
     let starts = draft.starts;
@@ -171,6 +184,6 @@ pub fn orders_size(draft: Draft) -> usize
         + size_when(draft.cancel, 4)
         + size_held(pdu)
         + 7 * count_of(starts)
-        + size_when(draft.told != 0, 5)
+        + size_when(draft.configure != 0, 5)
         + size_held(user)
 }

@@ -2,10 +2,10 @@
 use borrow.Author.Needs.{needs}
 use mathlib.Core.Path.{sym, _∙_}
 use lib.Dec.{lit≤}
-use Rattle.callcontrol.specs.Orders.{bytesOf}
+use Rattle.callcontrol.specs.Writing.{bytesOf}
 use Rattle.callcontrol.proofs.Laying.{size-one, size-bound}
-use Rattle.callcontrol.proofs.orders.size_held.Statement.{statement}
-use Rattle.callcontrol.proofs.orders.size_held.Tie as tie
+use Rattle.callcontrol.proofs.writing.size_held.Statement.{statement}
+use Rattle.callcontrol.proofs.writing.size_held.Tie as tie
 
 pub size-held-spec : {M : Type 1} → statement M
 unfolding bytesOf

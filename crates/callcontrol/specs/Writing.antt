@@ -9,7 +9,7 @@ use Rattle.records.specs.declared.messages.Message.{Message}
 use Rattle.records.specs.Bodies.{laid, laidNext}
 use Rattle.records.specs.Messages.{messageBytes}
 use Rattle.callcontrol.specs.declared.draft.Slot.{Slot}
-use Rattle.callcontrol.specs.declared.draft.Draft.{Draft}
+use Rattle.callcontrol.specs.Draft.{Draft}
 use Rattle.callcontrol.specs.Call.{T301, T302, T303, T306, T308, T310, T311}
 
 abbrev pub when : Bool → Message → List Message
@@ -34,13 +34,13 @@ unfoldable pub starting : ℕ → ℕ → Message
 starting code n = Message.Start n (cond (eqb n 310) code 0)
 
 -- STOPs by rising number, CANCEL, U-PDU, STARTs by rising number, CONFIGURE, user primitive
-unfoldable pub orders : Draft → List Message
-orders d =
+unfoldable pub messagesIn : Draft → List Message
+messagesIn d =
     byNumber Message.Stop (d .stops)
     ++ (when (d .cancel) Message.Cancel
     ++ (held (d .pdu)
     ++ (byNumber (starting (d .call .code)) (d .starts)
-    ++ (when (not (eqb (d .told) 0)) (Message.Configure (d .told)) ++ held (d .user)))))
+    ++ (when (not (eqb (d .configure) 0)) (Message.Configure (d .configure)) ++ held (d .user)))))
 
 -- messages one after the other as bytes
 unfoldable pub bytesOf : List Message → List ℕ

@@ -1,8 +1,8 @@
 -- A message that is held is laid; else nothing is.
 use borrow.Author.Needs.{needs}
-use Rattle.callcontrol.specs.Orders.{layAll}
-use Rattle.callcontrol.proofs.orders.lay_held.Statement.{statement}
-use Rattle.callcontrol.proofs.orders.lay_held.Tie as tie
+use Rattle.callcontrol.specs.Writing.{layAll}
+use Rattle.callcontrol.proofs.writing.lay_held.Statement.{statement}
+use Rattle.callcontrol.proofs.writing.lay_held.Tie as tie
 
 pub lay-held-spec : {M : Type 1} → statement M
 unfolding layAll

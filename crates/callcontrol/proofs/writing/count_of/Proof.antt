@@ -1,9 +1,9 @@
 -- One for each flag.
 use borrow.Author.Needs.{needs}
 use native.Mathlib.Omega.{arith}
-use Rattle.callcontrol.specs.Orders.{countOf}
-use Rattle.callcontrol.proofs.orders.count_of.Statement.{statement}
-use Rattle.callcontrol.proofs.orders.count_of.Tie as tie
+use Rattle.callcontrol.specs.Writing.{countOf}
+use Rattle.callcontrol.proofs.writing.count_of.Statement.{statement}
+use Rattle.callcontrol.proofs.writing.count_of.Tie as tie
 
 pub count-of-spec : {M : Type 1} → statement M
 unfolding countOf

@@ -1,8 +1,8 @@
 -- A message that is to be written is laid; else nothing is.
 use borrow.Author.Needs.{needs}
-use Rattle.callcontrol.specs.Orders.{layAll}
-use Rattle.callcontrol.proofs.orders.lay_when.Statement.{statement}
-use Rattle.callcontrol.proofs.orders.lay_when.Tie as tie
+use Rattle.callcontrol.specs.Writing.{layAll}
+use Rattle.callcontrol.proofs.writing.lay_when.Statement.{statement}
+use Rattle.callcontrol.proofs.writing.lay_when.Tie as tie
 
 pub lay-when-spec : {M : Type 1} → statement M
 unfolding layAll

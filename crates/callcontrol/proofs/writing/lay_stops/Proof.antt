@@ -2,10 +2,10 @@
 use mathlib.Core.Path.{_∙_, sym}
 use borrow.Author.Needs.{needs}
 use Rattle.callcontrol.proofs.Laying.{lay-then, lay-none, no-orders}
-use Rattle.callcontrol.specs.Orders.{byNumber}
+use Rattle.callcontrol.specs.Writing.{byNumber}
 use Rattle.records.specs.declared.messages.Message.{Message}
-use Rattle.callcontrol.proofs.orders.lay_stops.Statement.{statement}
-use Rattle.callcontrol.proofs.orders.lay_stops.Tie as tie
+use Rattle.callcontrol.proofs.writing.lay_stops.Statement.{statement}
+use Rattle.callcontrol.proofs.writing.lay_stops.Tie as tie
 
 pub lay-stops-spec : {M : Type 1} → statement M
 unfolding byNumber

@@ -1,13 +1,13 @@
 -- The parts in the paper's order.
 use borrow.Author.Needs.{needs}
-use Rattle.callcontrol.specs.Orders.{orders}
+use Rattle.callcontrol.specs.Writing.{messagesIn}
 use Rattle.callcontrol.proofs.Laying.{lay-then}
-use Rattle.callcontrol.proofs.orders.lay_orders.Statement.{statement}
-use Rattle.callcontrol.proofs.orders.lay_orders.Tie as tie
+use Rattle.callcontrol.proofs.writing.lay_messages.Statement.{statement}
+use Rattle.callcontrol.proofs.writing.lay_messages.Tie as tie
 
-pub lay-orders-spec : {M : Type 1} → statement M
-unfolding orders
-lay-orders-spec =
+pub lay-messages-spec : {M : Type 1} → statement M
+unfolding messagesIn
+lay-messages-spec =
     tie.close
     (tie.spec
     (λ c κs. search needs)

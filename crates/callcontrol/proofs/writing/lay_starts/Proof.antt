@@ -2,9 +2,9 @@
 use mathlib.Core.Path.{_∙_, sym}
 use borrow.Author.Needs.{needs}
 use Rattle.callcontrol.proofs.Laying.{lay-then, lay-none, no-orders}
-use Rattle.callcontrol.specs.Orders.{byNumber, starting}
-use Rattle.callcontrol.proofs.orders.lay_starts.Statement.{statement}
-use Rattle.callcontrol.proofs.orders.lay_starts.Tie as tie
+use Rattle.callcontrol.specs.Writing.{byNumber, starting}
+use Rattle.callcontrol.proofs.writing.lay_starts.Statement.{statement}
+use Rattle.callcontrol.proofs.writing.lay_starts.Tie as tie
 
 pub lay-starts-spec : {M : Type 1} → statement M
 unfolding byNumber starting

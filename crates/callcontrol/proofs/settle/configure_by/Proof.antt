@@ -1,13 +1,13 @@
 -- The present plane, the kept one, or the one ordered.
 use borrow.Author.Needs.{needs}
 use borrow.Author.Tests.{eq-eqb, ne-eqb}
-use Rattle.callcontrol.specs.Settle.{toldBy}
-use Rattle.callcontrol.proofs.settle.told_by.Statement.{statement}
-use Rattle.callcontrol.proofs.settle.told_by.Tie as tie
+use Rattle.callcontrol.specs.Settle.{configureBy}
+use Rattle.callcontrol.proofs.settle.configure_by.Statement.{statement}
+use Rattle.callcontrol.proofs.settle.configure_by.Tie as tie
 
-pub told-by-spec : {M : Type 1} → statement M
-unfolding toldBy
-told-by-spec =
+pub configure-by-spec : {M : Type 1} → statement M
+unfolding configureBy
+configure-by-spec =
     tie.close
     (tie.spec
     (λ c. rw (eq-eqb _ _ (c .if1 .taken)))
