@@ -55,6 +55,10 @@ no-row : (c : Call) (r : Row) (d : Draft) → draftOf c r ≡ d → r .orders �
 unfolding draftOf noRow
 no-row c r d h none = ap (λ (w : Draft). w .taken) (sym (rw (eq-eqb _ _ none) at h))
 
+pub by-other : (c : Call) (e : Event) (b : List ℕ) → otherCall c e ≡ true → refusal 5 c b ≡ decided c e b
+unfolding decided
+by-other c e b other = rw other
+
 pub by-none : (c : Call) (e : Event) (b : List ℕ) (r : Row) → otherCall c e ≡ false → draftOf c r ≡ rowFor c e → r .orders ≡ 0
     → refusal 6 c b ≡ decided c e b
 unfolding decided

@@ -466,7 +466,7 @@ pub continued-off-is : (c : Call) → draftOf c (rowOf c (CALL-ACTIVE + OFF + TX
 unfolding verbs numbers
 continued-off-is c = refl
 
-pub pause-cut-is : (c : Call) → draftOf c (rowOf c (CALL-ACTIVE + BROKEN + OFF + TX-INDICATION) 8) ≡ wait c Event.Break
+pub pause-cut-is : (c : Call) → draftOf c (rowAsking c (CALL-ACTIVE + BROKEN + OFF + TX-INDICATION) (c .asked) 8) ≡ wait c Event.Break
 unfolding verbs numbers wait
 pause-cut-is c = refl
 

@@ -101,6 +101,10 @@ answerNumber Answer.NoRoom = 7
 abbrev pub asOutcome : Stepped → List ℕ → Outcome
 asOutcome r buffer = record { answer = answerNumber (r .answer); call = r .call; count = r .count; buffer = buffer }
 
+-- the code's refusal
+abbrev pub refusing : Answer → Call → Stepped
+refusing a c = record { answer = a; count = 0; call = c }
+
 -- the code's answer where no event was read
 abbrev pub unreadAs : EventRead → Answer
 unreadAs (EventRead.Is e) = Answer.Taken

@@ -543,7 +543,12 @@ fn wait(call: Call, event: Event) -> Row
         Event::DDisconnect { id } => disconnected(id, call),
         Event::DRelease { id: _ } => released(call),
         // 14.5.1.2.4: the permission was lost with the pause, so asked stays.
-        Event::Break => Row::of(call, CALL_ACTIVE + BROKEN + OFF + TX_INDICATION, 8),
+        Event::Break => Row::asking(
+            call,
+            CALL_ACTIVE + BROKEN + OFF + TX_INDICATION,
+            call.asked,
+            8,
+        ),
         Event::Expiry { timer } => expiry(timer, call),
         _ => Row::none(),
     }

@@ -2,7 +2,7 @@
 ghost use mathlib.Core.Path.{_≡_};
 ghost use Prim.Native.Nat.{_<_};
 ghost use Rattle.callcontrol.specs.Draft.{asDraft};
-ghost use Rattle.callcontrol.specs.Step.{answerNumber, namedIn, differs, otherCall, carried, decided, stepOf, asOutcome, unreadAs};
+ghost use Rattle.callcontrol.specs.Step.{answerNumber, refusing, namedIn, differs, otherCall, carried, decided, stepOf, asOutcome, unreadAs};
 use crate::call::Call;
 use crate::draft::Drafted;
 use crate::rows::row_for;
@@ -55,6 +55,17 @@ pub struct Stepped {
     pub answer: Answer,
     pub count: usize,
     pub call: Call,
+}
+
+// A refusal counts 0 bytes and returns the record as given.
+fn refuse(answer: Answer, call: Call) -> Stepped
+    ensures { λ r. ⌜ r ≡ refusing answer call ⌝ }
+{
+    Stepped {
+        answer,
+        count: 0,
+        call,
+    }
 }
 
 // The identifier that an event names a call by.
@@ -132,11 +143,7 @@ fn carry(call: Call, draft: Drafted, buffer: &mut [u8]) -> Stepped
 {
     let size = messages_size(draft);
     if buffer.len() < size {
-        return Stepped {
-            answer: Answer::NoRoom,
-            count: 0,
-            call,
-        };
+        return refuse(Answer::NoRoom, call);
     }
     lay_messages(draft, buffer);
     let next = draft.call;
@@ -152,19 +159,11 @@ fn decide(call: Call, event: Event, buffer: &mut [u8]) -> Stepped
     ensures { λ r. ⌜ asOutcome r (now (buffer .exit)) ≡ decided call event (now (buffer .entry)) ⌝ }
 {
     if other_call(call, event) {
-        return Stepped {
-            answer: Answer::OtherCall,
-            count: 0,
-            call,
-        };
+        return refuse(Answer::OtherCall, call);
     }
     let row = row_for(call, event);
     if row.orders == 0 {
-        return Stepped {
-            answer: Answer::NoRow,
-            count: 0,
-            call,
-        };
+        return refuse(Answer::NoRow, call);
     }
     carry(call, settle(call, row), buffer)
 }
@@ -173,19 +172,11 @@ pub fn step(call: Call, event: &[u8], buffer: &mut [u8]) -> Stepped
     ensures { λ r. ⌜ asOutcome r (now (buffer .exit)) ≡ stepOf call (now (event .entry)) (now (buffer .entry)) ⌝ }
 {
     if !call.sound() {
-        return Stepped {
-            answer: Answer::NotSound,
-            count: 0,
-            call,
-        };
+        return refuse(Answer::NotSound, call);
     }
     let read = read_event(event);
     let EventRead::Is(e) = read else {
-        return Stepped {
-            answer: unread(read),
-            count: 0,
-            call,
-        };
+        return refuse(unread(read), call);
     };
     decide(call, e, buffer)
 }

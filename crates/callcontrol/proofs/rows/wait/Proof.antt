@@ -76,6 +76,6 @@ wait-spec =
     (λ c. rw (c .before .before .before .event .given .1, ne-eqb _ _ (c .before .if1 .left), c .of2 .ensures) (continued-off-is _))
     (λ c. rw (c .before .before .event2 .given .1) (c .disconnected .ensures))
     (λ c. rw (c .before .enum-told2 .given .1) (c .released .ensures))
-    (λ c. rw (c .before .enum-told3 .given .1, c .of3 .ensures) (pause-cut-is _))
+    (λ c. rw (c .before .enum-told3 .given .1, c .asking .ensures) (pause-cut-is _))
     (λ c. rw (c .before .before .event3 .given .1) (c .expiry .ensures))
     (λ c. rw (c .none .ensures) (none-is (c .before .before .args .call) ∙ no-row (c .before .before .args .call) (c .before .before .args .event) (oneOf others (c .before .before .args .event) (c .before .match .keys7)))))

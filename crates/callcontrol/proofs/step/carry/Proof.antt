@@ -11,9 +11,10 @@ carry-spec =
     tie.close
     (tie.spec
     (λ c κs. search needs)
+    (λ c κs. search needs)
     (λ c.
-    let a = c .before .before .before .args in
-    too-long (a .call) (asDraft (a .draft)) (now (a .buffer)) _ (c .before .messages-size .ensures) (c .if1 .taken))
+    let a = c .before .before .before .before .args in
+    rw (c .refuse .ensures) (too-long (a .call) (asDraft (a .draft)) (now (a .buffer)) _ (c .before .before .messages-size .ensures) (c .before .if1 .taken)))
     (λ c κs. search needs)
     (λ c. search needs)
     (λ c.

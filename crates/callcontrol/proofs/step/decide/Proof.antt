@@ -1,21 +1,21 @@
 -- 5, then 6, then what the row orders.
 use mathlib.Core.Path.{_∙_, sym}
 use borrow.Author.Needs.{needs}
-use Rattle.callcontrol.proofs.Carried.{by-orders, by-none}
-use Rattle.callcontrol.specs.Step.{decided}
+use Rattle.callcontrol.proofs.Carried.{by-other, by-none, by-orders}
 use denote.Ref.{now}
 use Rattle.callcontrol.proofs.step.decide.Statement.{statement}
 use Rattle.callcontrol.proofs.step.decide.Tie as tie
 
 pub decide-spec : {M : Type 1} → statement M
-unfolding decided
 decide-spec =
     tie.close
     (tie.spec
     (λ c κs. search needs)
-    (λ c. rw (← c .before .other-call .ensures, c .if1 .taken))
     (λ c κs. search needs)
-    (λ c. by-none (c .before .before .before .before .before .before .args .call) (c .before .before .before .before .before .before .args .event) (now (c .before .before .before .before .before .before .args .buffer)) _ (sym (c .before .before .before .before .other-call .ensures) ∙ c .before .before .before .if1 .left) (c .before .before .row-for .ensures) (c .if2 .taken))
+    (λ c. rw (c .refuse .ensures) (by-other _ _ _ (sym (c .before .before .other-call .ensures) ∙ c .before .if1 .taken)))
+    (λ c κs. search needs)
+    (λ c κs. search needs)
+    (λ c. rw (c .refuse2 .ensures) (by-none _ _ _ _ (sym (c .before .before .before .before .before .other-call .ensures) ∙ c .before .before .before .before .if1 .left) (c .before .before .before .row-for .ensures) (c .before .if2 .taken)))
     (λ c κs. search needs)
     (λ c κs. search needs)
     (λ c. search needs)

@@ -28,14 +28,16 @@ step-spec =
     tie.close
     (tie.spec
     (λ c κs. search needs)
-    (λ c. rw (← c .before .sound .ensures, not-true (c .before .sound .result) (c .if1 .taken)))
+    (λ c κs. search needs)
+    (λ c. rw (c .refuse .ensures, ← c .before .before .sound .ensures, not-true (c .before .before .sound .result) (c .before .if1 .taken)))
     (λ c κs. search needs)
     (λ c. search needs)
     (λ c κs. search needs)
+    (λ c κs. search needs)
     (λ c.
-    let s = c .before .before in
-    rw (← s .before .before .sound .ensures, not-false (s .before .before .sound .result) (s .before .if1 .left), ← s .read-event .ensures, c .unread .ensures)
-    (unread-refuses (s .read-event .result) _ _ (c .before .match .keys2)))
+    let s = c .before .before .before in
+    rw (c .refuse2 .ensures, ← s .before .before .sound .ensures, not-false (s .before .before .sound .result) (s .before .if1 .left), ← s .read-event .ensures, c .before .unread .ensures)
+    (unread-refuses (s .read-event .result) _ _ (c .before .before .match .keys2)))
     (λ c κs. search needs)
     (λ c. search needs)
     (λ c.
