@@ -3,8 +3,12 @@
 use crate::histories::root;
 use std::env;
 use std::ffi::OsStr;
-use std::path::{Path, PathBuf};
-use std::process::Command;
+use std::io::{Read, Write};
+use std::path::Path;
+use std::process::{Command, ExitStatus, Stdio};
+use std::sync::mpsc;
+use std::thread;
+use std::time::{Duration, Instant};
 
 /// Compilers of C and of C++ for the library's machine.
 pub const CC: &str = env!("CALLCONTROL_CC");
@@ -55,56 +59,104 @@ pub fn run(program: impl AsRef<OsStr>) -> Command {
     command
 }
 
-/// The program calltrace. It was linked for a loader and libraries that only the toolchain has, so
-/// those are used where the toolchain is found.
-pub fn calltrace() -> Command {
-    if let Some(given) = env::var_os("CALLTRACE") {
-        if Path::new(&given).is_file() {
-            return Command::new(given);
-        }
-        // A command with its arguments.
-        let given = given.into_string().expect("CALLTRACE is text");
-        let mut words = given.split_whitespace();
-        let mut command = Command::new(words.next().expect("CALLTRACE names a program"));
-        command.args(words);
-        return command;
-    }
-    let program = root().join("target/bin/calltrace");
-    assert!(
-        program.is_file(),
-        "{} is missing: build the program calltrace first, or name it in CALLTRACE",
-        program.display()
-    );
-    let x86_64 = cfg!(target_arch = "x86_64");
-    let Some(toolchain) = toolchain() else {
-        assert!(
-            x86_64,
-            "{} is a program for x86-64, and the toolchain that has an emulator and a loader for \
-             it was not found beside the command `rt`; name a command that runs it in CALLTRACE",
-            program.display()
-        );
-        return Command::new(program);
-    };
-    let (loader, emulator) =
-        (toolchain.join("lib/ld-linux-x86-64.so.2"), toolchain.join("bin/qemu-x86_64"));
-    let mut command = if x86_64 {
-        Command::new(loader)
-    } else {
-        let mut command = Command::new(emulator);
-        command.arg(loader);
-        command
-    };
-    command.arg("--library-path").arg(toolchain.join("lib")).arg(program);
-    command
+/// What a program wrote, and how it ended.
+pub struct Ran {
+    pub stdout: String,
+    pub stderr: String,
+    pub status: ExitStatus,
 }
 
-/// The toolchain's part for this machine, if the command `rt` is found and it has a loader there.
-fn toolchain() -> Option<PathBuf> {
-    let rt = env::split_paths(&env::var_os("PATH")?)
-        .map(|folder| folder.join("rt"))
-        .find(|file| file.is_file())?
-        .canonicalize()
-        .ok()?;
-    let toolchain = rt.parent()?.parent()?.join("on").join(env::consts::ARCH).join("toolchain");
-    toolchain.join("lib/ld-linux-x86-64.so.2").is_file().then_some(toolchain)
+/// How long a program may take, and how many bytes it may write to either of its outputs.
+pub struct Limits {
+    pub time: Duration,
+    pub bytes: usize,
+}
+
+/// Far more than any test here needs, on an emulated machine too.
+pub const LIMITS: Limits = Limits { time: Duration::from_secs(60), bytes: 4 << 20 };
+
+/// Runs a program on this input, or on the standard input that it was given where there is none. One
+/// that goes past its limits is ended, and so is the test.
+pub fn run_within(mut command: Command, input: Option<&[u8]>, limits: &Limits) -> Ran {
+    if input.is_some() {
+        command.stdin(Stdio::piped());
+    }
+    let mut running = command
+        .stdout(Stdio::piped())
+        .stderr(Stdio::piped())
+        .spawn()
+        .unwrap_or_else(|error| panic!("does not start: {error}: {command:?}"));
+    let deadline = Instant::now() + limits.time;
+
+    // Each pipe has a thread of its own, so that none can fill up and hold the others. A program that
+    // has ended at a cut record need not read the rest.
+    if let (Some(mut stdin), Some(input)) = (running.stdin.take(), input.map(<[u8]>::to_vec)) {
+        thread::spawn(move || {
+            let _ = stdin.write_all(&input);
+        });
+    }
+    let (send, outputs) = mpsc::channel();
+    let pipes: [Box<dyn Read + Send>; 2] = [
+        Box::new(running.stdout.take().expect("piped")),
+        Box::new(running.stderr.take().expect("piped")),
+    ];
+    let most = limits.bytes;
+    for (place, pipe) in pipes.into_iter().enumerate() {
+        let send = send.clone();
+        thread::spawn(move || {
+            let mut bytes = Vec::new();
+            let _ = pipe.take(most as u64 + 1).read_to_end(&mut bytes);
+            let _ = send.send((place, bytes));
+        });
+    }
+
+    let ended = (|| {
+        let mut written = [String::new(), String::new()];
+        for _ in 0..2 {
+            let left = deadline.saturating_duration_since(Instant::now());
+            let (place, bytes) = outputs.recv_timeout(left).map_err(|_| "goes on for too long")?;
+            if bytes.len() > most {
+                return Err("writes too much");
+            }
+            written[place] = String::from_utf8(bytes).map_err(|_| "writes what is no text")?;
+        }
+        // Both outputs are closed, and the program may still go on.
+        loop {
+            match running.try_wait().expect("it was started here") {
+                Some(status) => return Ok((written, status)),
+                None if Instant::now() > deadline => return Err("goes on for too long"),
+                None => thread::sleep(Duration::from_millis(1)),
+            }
+        }
+    })();
+    match ended {
+        Ok(([stdout, stderr], status)) => Ran { stdout, stderr, status },
+        Err(fault) => {
+            let _ = running.kill();
+            let _ = running.wait();
+            panic!("{fault}: {command:?}");
+        }
+    }
+}
+
+/// The program calltrace, as anyone would run it: by the script that finds what it needs on this machine.
+pub fn calltrace() -> Command {
+    let Some(given) = env::var_os("CALLTRACE") else {
+        let program = root().join("target/bin/calltrace");
+        assert!(
+            program.is_file(),
+            "{} is missing: build the program calltrace first, or name it in CALLTRACE",
+            program.display()
+        );
+        return Command::new(root().join("examples/calltrace"));
+    };
+    if Path::new(&given).is_file() {
+        return Command::new(given);
+    }
+    // A command with its arguments.
+    let given = given.into_string().expect("CALLTRACE is text");
+    let mut words = given.split_whitespace();
+    let mut command = Command::new(words.next().expect("CALLTRACE names a program"));
+    command.args(words);
+    command
 }

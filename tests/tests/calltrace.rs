@@ -4,36 +4,19 @@
 //! make the same of them, so a wrong line cannot hide behind a wrong program.
 
 use callcontrol_tests::account::{boundary, Call};
-use callcontrol_tests::histories::{input, lines, names, trace};
-use callcontrol_tests::{library, programs};
-use std::io::Write;
-use std::process::Stdio;
-use std::thread;
+use callcontrol_tests::histories::{input, lines, names, root, trace};
+use callcontrol_tests::library;
+use callcontrol_tests::programs::{self, run_within, Limits, LIMITS};
+use std::fs::{self, File};
+use std::process::{Command, Stdio};
+use std::time::Duration;
 
+/// What it prints. It ends by itself, within the limits, and has nothing to complain of.
 fn calltrace(input: &[u8]) -> String {
-    let mut command = programs::calltrace();
-    let mut running = command
-        .stdin(Stdio::piped())
-        .stdout(Stdio::piped())
-        .stderr(Stdio::piped())
-        .spawn()
-        .unwrap_or_else(|error| panic!("calltrace does not start: {error}: {command:?}"));
-    let mut stdin = running.stdin.take().expect("piped");
-    let input = input.to_vec();
-    // Written beside the reading, so that neither pipe can fill up and hold both. A program that
-    // has ended at a cut record need not read the rest.
-    let writer = thread::spawn(move || {
-        let _ = stdin.write_all(&input);
-    });
-    let output = running.wait_with_output().expect("calltrace ends");
-    writer.join().expect("the writer ends");
-    assert!(
-        output.status.code().is_some() && !output.stdout.is_empty(),
-        "calltrace prints nothing, or was ended by a signal: {}\n{command:?}\n{}",
-        output.status,
-        String::from_utf8_lossy(&output.stderr)
-    );
-    String::from_utf8(output.stdout).expect("calltrace prints text")
+    let ran = run_within(programs::calltrace(), Some(input), &LIMITS);
+    assert!(ran.status.success(), "{}: {}", ran.status, ran.stderr);
+    assert_eq!(ran.stderr, "", "written to standard error");
+    ran.stdout
 }
 
 #[track_caller]
@@ -137,4 +120,56 @@ fn a_long_history_goes_through() {
     let expected = trace(&input, Call::FRESH.pack(), boundary::step);
     let printed = calltrace(&input);
     assert!(printed == expected, "2000 times colliding_release is printed otherwise");
+}
+
+/// The input that is kept with the program, which `rt check` runs it on, ends with a cut record.
+#[test]
+fn the_stored_input() {
+    let stored = |name| fs::read(root().join("crates/calltrace").join(name)).expect("it is stored");
+    let (input, expected) = (stored("stdin"), stored("stdout"));
+    let expected = String::from_utf8(expected).expect("it is text");
+    assert_eq!(trace(&input, Call::FRESH.pack(), boundary::step), expected);
+    assert_eq!(calltrace(&input), expected);
+}
+
+/// An input that cannot be read is told, and counts as ended.
+#[test]
+fn an_input_that_cannot_be_read() {
+    let mut command = programs::calltrace();
+    command.stdin(File::open(root()).expect("a folder, which is no input"));
+    let ran = run_within(command, None, &LIMITS);
+    assert_eq!(ran.stdout, "answer state plane bytes\n");
+    assert_eq!(ran.stderr, "calltrace: standard input cannot be read\n");
+}
+
+/// An output that cannot be written is told once, and ends the program, at whatever line that is.
+#[test]
+fn an_output_that_cannot_be_written() {
+    let long = input("colliding_release").repeat(2000);
+    for input in [input("checked_example"), long] {
+        let mut command = Command::new("sh");
+        command.arg("-c").arg("exec \"$@\" >/dev/full").arg("sh");
+        let calltrace = programs::calltrace();
+        command.arg(calltrace.get_program()).args(calltrace.get_args());
+        let ran = run_within(command, Some(&input), &LIMITS);
+        assert_eq!(ran.stdout, "");
+        assert_eq!(ran.stderr, "calltrace: standard output cannot be written\n");
+    }
+}
+
+/// The limits hold: a program that goes on or writes on fails a test, and does not hang it.
+#[test]
+#[should_panic(expected = "goes on for too long")]
+fn a_program_that_goes_on_is_ended() {
+    let mut command = Command::new("sleep");
+    command.arg("600").stdin(Stdio::null());
+    run_within(command, None, &Limits { time: Duration::from_millis(100), ..LIMITS });
+}
+
+#[test]
+#[should_panic(expected = "writes too much")]
+fn a_program_that_writes_on_is_ended() {
+    let mut command = Command::new("yes");
+    command.stdin(Stdio::null());
+    run_within(command, None, &Limits { bytes: 1 << 16, ..LIMITS });
 }

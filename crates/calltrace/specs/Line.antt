@@ -2,7 +2,8 @@
 use Prim.Native.Nat.{ℕ, _+_, _/_, _%_}
 use mathlib.Core.Bool.{cond}
 use mathlib.Core.List.{List, [], _∷_, _++_}
-use lib.Dec.{ltb}
+use lib.Dec.{ltb, eqb}
+use Rattle.callcontrol.specs.declared.call.Call.{Call}
 use Rattle.callcontrol.specs.declared.call.State.{State}
 use Rattle.callcontrol.specs.declared.call.State.the-variants.{Idle, MoCallSetup, MtCallSetup, CallActive, Wait, CallDisconnect}
 use Rattle.callcontrol.specs.Step.{Outcome}
@@ -36,9 +37,21 @@ unfoldable pub lineOf : ℕ → State → ℕ → ℕ → List ℕ
 lineOf answer state plane count =
     code answer ++ ((32 ∷ []) ++ (nameOf state ++ ((32 ∷ []) ++ (decimal plane ++ ((32 ∷ []) ++ (decimal count ++ (10 ∷ [])))))))
 
+-- the most bytes that a line takes
+abbrev pub lineMost : ℕ
+lineMost = 26
+
 abbrev pub lineBytes : Line → List ℕ
 lineBytes l = lineOf (l .answer) (l .state) (l .plane) (l .count)
 
 -- the answer, the state and the plane of the record given back, and the count of bytes written
 abbrev pub lineFor : Outcome → List ℕ
 lineFor o = lineOf (o .answer) (o .call .state) (o .call .plane) (o .count)
+
+-- the last line, of a record that is cut or has a length under 4: answer 2, the state and plane held and 0 bytes
+abbrev pub lastLine : Call → List ℕ
+lastLine c = lineOf 2 (c .state) (c .plane) 0
+
+-- at the end of the input, by how many bytes of a record that is not whole are left
+abbrev pub endLines : ℕ → Call → List ℕ
+endLines rest c = cond (eqb rest 0) [] (lastLine c)

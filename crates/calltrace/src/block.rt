@@ -1,11 +1,11 @@
-// The records of a block of input: where each ends, and the lines of those that are there whole.
+// The records of a block of input: where each ends, the lines of those that are there whole, and the rest that more input completes.
 ghost use mathlib.Core.Path.{_≡_};
 ghost use Prim.Native.Nat.{ℕ, _+_, _-_, _<_, _≤_};
-ghost use lib.ListN.{length, replicate};
+ghost use lib.ListN.{length, take, drop};
 ghost use Rattle.records.specs.Bodies.{Stored};
-ghost use Rattle.callcontrol.specs.Step.{stepOf, answerNumber};
-ghost use Rattle.calltrace.specs.Line.{lineFor};
-ghost use Rattle.calltrace.specs.Block.{frameAt, FrameIn, PauseIn, Traced};
+ghost use Rattle.callcontrol.specs.Step.{answerNumber};
+ghost use Rattle.calltrace.specs.Line.{lineMost, lineFor};
+ghost use Rattle.calltrace.specs.Block.{aheadIn, AheadFits, outcomeOf, PauseIn, Traced};
 use crate::line::LINE_MOST;
 use crate::line::Line;
 use crate::line::put_line;
@@ -14,8 +14,8 @@ use callcontrol::step::Answer;
 use callcontrol::step::step;
 
 // What stands at a position.
-pub enum Frame {
-    // A whole record, up to this position.
+pub enum Ahead {
+    // A whole record, of so many bytes.
     Whole(usize),
     // A record of which bytes are missing, or nothing.
     Cut,
@@ -47,23 +47,23 @@ struct Turned {
     call: Call,
 }
 
-fn frame_at(s: &[u8], at: usize) -> Frame
+fn ahead_at(s: &[u8], at: usize) -> Ahead
     requires { ⌜ at ≤ length (now s) ⌝ }
-    ensures { λ r. ⌜ r ≡ frameAt (now (s .entry)) at ⌝ }
-    ensures { λ r. ⌜ FrameIn at (length (now (s .entry))) r ⌝ }
+    ensures { λ r. ⌜ r ≡ aheadIn (drop at (now (s .entry))) ⌝ }
+    ensures { λ r. ⌜ AheadFits (length (now (s .entry)) - at) r ⌝ }
 {
     let left = s.len() - at;
     if left < 2 {
-        return Frame::Cut;
+        return Ahead::Cut;
     }
     let size = (s[at] as usize) + 256 * (s[at + 1] as usize);
     if size < 4 {
-        return Frame::Short;
+        return Ahead::Short;
     }
     if left < size {
-        return Frame::Cut;
+        return Ahead::Cut;
     }
-    Frame::Whole(at + size)
+    Ahead::Whole(size)
 }
 
 fn answer_number(answer: Answer) -> u8
@@ -84,9 +84,9 @@ fn answer_number(answer: Answer) -> u8
 
 // One record through the step, which is lent 64 bytes for messages, and its line.
 fn turn(call: Call, event: &[u8], lines: &mut [u8], laid: usize) -> Turned
-    requires { ⌜ laid + 26 ≤ length (now lines) ⌝ }
-    ensures { λ r. ⌜ r .call ≡ stepOf call (now (event .entry)) (replicate 64 0) .call ⌝ }
-    ensures { λ r. ⌜ Stored (now (lines .entry)) laid (lineFor (stepOf call (now (event .entry)) (replicate 64 0))) (r .laid) (now (lines .exit)) ⌝ }
+    requires { ⌜ laid + lineMost ≤ length (now lines) ⌝ }
+    ensures { λ r. ⌜ r .call ≡ outcomeOf call (now (event .entry)) .call ⌝ }
+    ensures { λ r. ⌜ Stored (now (lines .entry)) laid (lineFor (outcomeOf call (now (event .entry)))) (r .laid) (now (lines .exit)) ⌝ }
     ensures { λ r. ⌜ r .laid ≤ length (now (lines .entry)) ⌝ }
 {
     let mut messages = [0u8; 64];
@@ -113,23 +113,24 @@ pub fn drain(s: &[u8], from: usize, first: Call, lines: &mut [u8], filled: usize
     requires { ⌜ filled ≤ length (now lines) ⌝ }
     ensures { λ r. ⌜ r .at ≤ length (now (s .entry)) ⌝ }
     ensures { λ r. ⌜ r .laid ≤ length (now (lines .entry)) ⌝ }
-    ensures { λ r. ⌜ PauseIn (now (s .entry)) (r .at) (length (now (lines .entry)) - r .laid) (r .pause) ⌝ }
-    ensures { λ r. ⌜ Traced (now (s .entry)) from first (now (lines .entry)) filled (r .at) (r .call) (r .laid) (now (lines .exit)) ⌝ }
+    ensures { λ r. ⌜ PauseIn (drop (r .at) (now (s .entry))) (length (now (lines .entry)) - r .laid) (r .pause) ⌝ }
+    ensures { λ r. ⌜ Traced (drop from (now (s .entry))) first (now (lines .entry)) filled (drop (r .at) (now (s .entry))) (r .call) (r .laid) (now (lines .exit)) ⌝ }
 {
     let mut at = from;
     let mut call = first;
     let mut laid = filled;
     while LINE_MOST <= lines.len() - laid {
-        let frame = frame_at(s, at);
-        match frame {
-            Frame::Whole(end) => {
+        let ahead = ahead_at(s, at);
+        match ahead {
+            Ahead::Whole(size) => {
+                let end = at + size;
                 let turned = turn(call, &s[at..end], lines, laid);
                 let next = turned.call;
                 call = next;
                 laid = turned.laid;
                 at = end;
             }
-            Frame::Cut => {
+            Ahead::Cut => {
                 return Drained {
                     at,
                     laid,
@@ -137,7 +138,7 @@ pub fn drain(s: &[u8], from: usize, first: Call, lines: &mut [u8], filled: usize
                     pause: Pause::Cut,
                 };
             }
-            Frame::Short => {
+            Ahead::Short => {
                 return Drained {
                     at,
                     laid,
@@ -153,4 +154,20 @@ pub fn drain(s: &[u8], from: usize, first: Call, lines: &mut [u8], filled: usize
         call,
         pause: Pause::Full,
     }
+}
+
+// Moves the bytes from `at` to `held` to the front, and answers how many they are.
+pub fn keep_rest(bytes: &mut [u8], at: usize, held: usize) -> usize
+    requires { ⌜ at ≤ held ⌝ }
+    requires { ⌜ held ≤ length (now bytes) ⌝ }
+    ensures { λ r. ⌜ r + at ≡ held ⌝ }
+    ensures { λ r. ⌜ take r (now (bytes .exit)) ≡ drop at (take held (now (bytes .entry))) ⌝ }
+{
+    let rest = held - at;
+    let mut i = 0;
+    while i < rest {
+        bytes[i] = bytes[at + i];
+        i += 1;
+    }
+    rest
 }

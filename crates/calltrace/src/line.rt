@@ -1,9 +1,11 @@
-// The text of a line: the answer, the state and the plane of the record given back, and the count of bytes written.
+// The text of a line: the answer, the state and the plane of the record given back, and the count of bytes written. The last line is that
+// of a record which no step answers.
 ghost use Prim.Native.Nat.{ℕ, _+_, _<_, _≤_};
 ghost use mathlib.Core.List.{List, [], _∷_};
 ghost use lib.ListN.{length};
 ghost use Rattle.records.specs.Bodies.{Stored};
-ghost use Rattle.calltrace.specs.Line.{code, decimal, nameOf, header, lineBytes};
+ghost use Rattle.calltrace.specs.Line.{code, decimal, nameOf, header, lineMost, lineBytes, lastLine, endLines};
+use callcontrol::call::Call;
 use callcontrol::call::State;
 
 // The most bytes that a line takes.
@@ -87,10 +89,10 @@ pub fn put_header(lines: &mut [u8]) -> usize
 }
 
 pub fn put_line(lines: &mut [u8], at: usize, line: Line) -> usize
-    requires { ⌜ at + 26 ≤ length (now lines) ⌝ }
+    requires { ⌜ at + lineMost ≤ length (now lines) ⌝ }
     requires { ⌜ line .answer < 10 ⌝ }
     ensures { λ r. ⌜ Stored (now (lines .entry)) at (lineBytes line) r (now (lines .exit)) ⌝ }
-    ensures { λ r. ⌜ r ≤ at + 26 ⌝ }
+    ensures { λ r. ⌜ r ≤ at + lineMost ⌝ }
 {
     let state = line.state;
     let at = put_digit(lines, at, line.answer);
@@ -101,4 +103,35 @@ pub fn put_line(lines: &mut [u8], at: usize, line: Line) -> usize
     let at = put_byte(lines, at, b' ');
     let at = put_number(lines, at, line.count);
     put_byte(lines, at, b'\n')
+}
+
+// The line of a record that is cut or has a length under 4.
+pub fn put_last(lines: &mut [u8], at: usize, call: Call) -> usize
+    requires { ⌜ at + lineMost ≤ length (now lines) ⌝ }
+    ensures { λ r. ⌜ Stored (now (lines .entry)) at (lastLine call) r (now (lines .exit)) ⌝ }
+    ensures { λ r. ⌜ r ≤ at + lineMost ⌝ }
+{
+    let state = call.state;
+    put_line(
+        lines,
+        at,
+        Line {
+            answer: 2,
+            state,
+            plane: call.plane,
+            count: 0,
+        },
+    )
+}
+
+// The end of the input, at which a record of which `rest` bytes came has a line too.
+pub fn put_end(lines: &mut [u8], at: usize, call: Call, rest: usize) -> usize
+    requires { ⌜ at + lineMost ≤ length (now lines) ⌝ }
+    ensures { λ r. ⌜ Stored (now (lines .entry)) at (endLines rest call) r (now (lines .exit)) ⌝ }
+    ensures { λ r. ⌜ r ≤ at + lineMost ⌝ }
+{
+    if rest == 0 {
+        return at;
+    }
+    put_last(lines, at, call)
 }

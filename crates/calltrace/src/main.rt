@@ -1,12 +1,15 @@
 // Reads event records from standard input and prints a line for what the step answers to each.
 ghost use mathlib.Core.Path.{_≡_};
-ghost use Prim.Native.Nat.{_+_, _-_, _<_, _≤_};
-ghost use lib.ListN.{length};
+ghost use Prim.Native.Nat.{_+_, _<_, _≤_};
+ghost use lib.ListN.{length, take};
+ghost use Rattle.calltrace.specs.Line.{lineMost};
+ghost use Rattle.calltrace.specs.Trace.{CompleteIf};
 use crate::block::Pause;
 use crate::block::drain;
-use crate::line::Line;
+use crate::block::keep_rest;
+use crate::line::put_end;
 use crate::line::put_header;
-use crate::line::put_line;
+use crate::line::put_last;
 use callcontrol::call::Call;
 use libc::STDERR_FILENO;
 use libc::STDIN_FILENO;
@@ -22,26 +25,16 @@ fn input_block() -> [u8; 131072]
     [0; 131072]
 }
 
-struct Refilled {
-    // How many bytes of a record that is not whole were left.
-    rest: usize,
-    // How many bytes are held then: as many, where the input has ended.
-    held: usize,
-}
-
-// Moves the bytes from `at` to `held` to the front, and answers how many they are.
-fn keep_rest(bytes: &mut [u8], at: usize, held: usize) -> usize
-    requires { ⌜ at ≤ held ⌝ }
-    requires { ⌜ held ≤ length (now bytes) ⌝ }
-    ensures { λ r. ⌜ r + at ≡ held ⌝ }
-{
-    let rest = held - at;
-    let mut i = 0;
-    while i < rest {
-        bytes[i] = bytes[at + i];
-        i += 1;
-    }
-    rest
+// What a trace comes to. The counts are there for the promise, which speaks of all that was read and written.
+struct InHand {
+    // How many bytes were read.
+    read: usize,
+    // How many bytes of lines were written.
+    written: usize,
+    // How many bytes of lines are laid and not yet written.
+    laid: usize,
+    // Whether the input has ended and its last line is laid.
+    complete: bool,
 }
 
 // Reads once behind the bytes that are held, and answers how many came: 0 at the end of the input, which an error ends too. The room
@@ -49,6 +42,7 @@ fn keep_rest(bytes: &mut [u8], at: usize, held: usize) -> usize
 fn read_behind(bytes: &mut [u8], held: usize) -> usize
     requires { ⌜ held < length (now bytes) ⌝ }
     ensures { λ r. ⌜ held + r ≤ length (now (bytes .entry)) ⌝ }
+    ensures { λ r. ⌜ take held (now (bytes .exit)) ≡ take held (now (bytes .entry)) ⌝ }
 {
     let room = &mut bytes[held..];
     let got = libc::read(STDIN_FILENO, room);
@@ -56,22 +50,6 @@ fn read_behind(bytes: &mut [u8], held: usize) -> usize
         io::write_all(STDERR_FILENO, b"calltrace: standard input cannot be read\n");
     }
     io::count(got, room)
-}
-
-// Makes room for what comes: the rest of a cut record moves to the front, and one read goes behind it.
-fn refill(bytes: &mut [u8], at: usize, held: usize) -> Refilled
-    requires { ⌜ at ≤ held ⌝ }
-    requires { ⌜ held ≤ length (now bytes) ⌝ }
-    requires { ⌜ held - at < length (now bytes) ⌝ }
-    ensures { λ r. ⌜ r .rest ≤ r .held ⌝ }
-    ensures { λ r. ⌜ r .held ≤ length (now (bytes .entry)) ⌝ }
-{
-    let rest = keep_rest(bytes, at, held);
-    let came = read_behind(bytes, rest);
-    Refilled {
-        rest,
-        held: rest + came,
-    }
 }
 
 // Writes the lines, and answers whether to go on.
@@ -88,45 +66,21 @@ fn write_lines(lines: &[u8], laid: usize) -> bool
     false
 }
 
-// The line of a record that is cut or too short, as the last.
-fn write_last(lines: &mut [u8], laid: usize, call: Call)
-    requires { ⌜ laid + 26 ≤ length (now lines) ⌝ }
-{
-    let state = call.state;
-    let end = put_line(
-        lines,
-        laid,
-        Line {
-            answer: 2,
-            state,
-            plane: call.plane,
-            count: 0,
-        },
-    );
-    write_lines(lines, end);
-}
-
-// The end of the input, at which a record that is not whole has a line too.
-fn write_end(lines: &mut [u8], laid: usize, call: Call, rest: usize)
-    requires { ⌜ laid + 26 ≤ length (now lines) ⌝ }
-{
-    if rest == 0 {
-        write_lines(lines, laid);
-        return;
-    }
-    write_last(lines, laid, call);
-}
-
-// A proved loop has to end, and nothing says that the input does. So the loop counts its turns down, from a number that no run uses up.
-fn trace(bytes: &mut [u8], lines: &mut [u8])
-    requires { ⌜ 65535 ≤ length (now bytes) ⌝ }
-    requires { ⌜ 26 ≤ length (now lines) ⌝ }
+// Writes every line but those in hand at the end. A proved loop has to end, and nothing says that the input does. So the loop counts its
+// turns down, from a number that no run uses up and that keeps the counts in range.
+fn trace(bytes: &mut [u8], lines: &mut [u8]) -> InHand
+    requires { ⌜ (65535 ≤ length (now bytes)) × (length (now bytes) ≤ 131072) ⌝ }
+    requires { ⌜ (lineMost ≤ length (now lines)) × (length (now lines) ≤ 65536) ⌝ }
+    ensures { λ r. ⌜ r .laid ≤ length (now (lines .entry)) ⌝ }
+    ensures { λ r. ⌜ CompleteIf (r .complete) (r .read) (r .written) (take (r .laid) (now (lines .exit))) ⌝ }
 {
     let mut laid = put_header(lines);
     let mut call = Call::fresh();
     let mut at = 0;
     let mut held = 0;
-    let mut turns = u64::MAX;
+    let mut read = 0;
+    let mut written = 0;
+    let mut turns: usize = 1 << 46;
     while turns > 0 {
         turns -= 1;
         let drained = drain(&bytes[..held], at, call, lines, laid);
@@ -138,29 +92,56 @@ fn trace(bytes: &mut [u8], lines: &mut [u8])
         match pause {
             Pause::Full => {
                 if !write_lines(lines, laid) {
-                    return;
+                    return InHand {
+                        read,
+                        written,
+                        laid,
+                        complete: false,
+                    };
                 }
+                written += laid;
                 laid = 0;
             }
             Pause::Short => {
-                write_last(lines, laid, call);
-                return;
+                let end = put_last(lines, laid, call);
+                return InHand {
+                    read,
+                    written,
+                    laid: end,
+                    complete: true,
+                };
             }
             Pause::Cut => {
-                let filled = refill(bytes, at, held);
-                if filled.held == filled.rest {
-                    write_end(lines, laid, call, filled.rest);
-                    return;
+                let rest = keep_rest(bytes, at, held);
+                let came = read_behind(bytes, rest);
+                read += came;
+                if came == 0 {
+                    let end = put_end(lines, laid, call, rest);
+                    return InHand {
+                        read,
+                        written,
+                        laid: end,
+                        complete: true,
+                    };
                 }
                 at = 0;
-                held = filled.held;
+                held = rest + came;
             }
         }
+    }
+    InHand {
+        read,
+        written,
+        laid,
+        complete: false,
     }
 }
 
 fn main() {
     let mut bytes = input_block();
     let mut lines = io::large_buffer();
-    trace(&mut bytes, &mut lines);
+    let last = trace(&mut bytes, &mut lines);
+    if last.complete {
+        write_lines(&lines, last.laid);
+    }
 }

@@ -2,26 +2,27 @@
 use Prim.Native.Nat.{ℕ, _+_, _*_, _-_, _<_}
 use mathlib.Core.Path.{_≡_, refl}
 use mathlib.Core.List.{List}
-use native.Mathlib.Numerals.{add-one}
+use native.Mathlib.Nat.{add-zero}
 use native.Mathlib.Omega.{arith}
 use borrow.Author.Needs.{needs}
 use borrow.Author.Tests.{lt-ltb, le-ltb}
-use lib.ListN.{length, getD}
+use lib.ListN.{length, drop, getD, length-drop}
+use lib.Seq.{getD-drop}
 use Rattle.records.specs.Bytes.{number}
-use Rattle.calltrace.specs.Block.{frameAt}
-use Rattle.calltrace.proofs.block.frame_at.Statement.{statement}
-use Rattle.calltrace.proofs.block.frame_at.Tie as tie
+use Rattle.calltrace.specs.Block.{aheadIn}
+use Rattle.calltrace.proofs.block.ahead_at.Statement.{statement}
+use Rattle.calltrace.proofs.block.ahead_at.Tie as tie
 
-word : (s : List ℕ) (at : ℕ) → number 2 s at ≡ getD s at 0 + 256 * getD s (at + 1) 0
+word : (s : List ℕ) (at : ℕ) → number 2 (drop at s) 0 ≡ getD s at 0 + 256 * getD s (at + 1) 0
 unfolding number
-word s at = rw add-one (omega arith)
+word s at = rw (getD-drop at s 0 0, getD-drop at s 1 0, add-zero at) (omega arith)
 
 sub-left : tie.Need-sub-left
 sub-left c = search needs
 
 returns : tie.Need-returns
-unfolding frameAt
-returns c = (rw (lt-ltb _ _ (c .if1 .taken)), omega arith)
+unfolding aheadIn
+returns c = (rw (length-drop, lt-ltb _ _ (c .if1 .taken)), omega arith)
 
 shared-slice-read-size : tie.Need-shared-slice-read-size
 shared-slice-read-size c = search needs
@@ -45,26 +46,23 @@ add-size-2 : tie.Need-add-size-2
 add-size-2 c = omega (arith, c .before .shared-slice-known .given (c .before .before .before .args .at), c .shared-slice-known2 .given (c .before .before .before .args .at + 1))
 
 returns-2 : tie.Need-returns-2
-unfolding frameAt
-returns-2 c = (rw (le-ltb _ _ (c .before .before .before .if1 .left), word, lt-ltb _ _ (c .if2 .taken)), tt)
+unfolding aheadIn
+returns-2 c = (rw (length-drop, le-ltb _ _ (c .before .before .before .if1 .left), word, lt-ltb _ _ (c .if2 .taken)), tt)
 
 returns-3 : tie.Need-returns-3
-unfolding frameAt
+unfolding aheadIn
 returns-3 c =
     let k = c .before .before in
-    (rw (le-ltb _ _ (k .before .before .if1 .left), word, le-ltb _ _ (c .before .if2 .left), lt-ltb _ _ (c .if3 .taken)), omega (arith, k .before .shared-slice-known .given (k .before .before .before .args .at), k .shared-slice-known2 .given (k .before .before .before .args .at + 1)))
-
-add-t13 : tie.Need-add-t13
-add-t13 c = search needs
+    (rw (length-drop, le-ltb _ _ (k .before .before .if1 .left), word, le-ltb _ _ (c .before .if2 .left), lt-ltb _ _ (c .if3 .taken)), omega (arith, k .before .shared-slice-known .given (k .before .before .before .args .at), k .shared-slice-known2 .given (k .before .before .before .args .at + 1)))
 
 returns-4 : tie.Need-returns-4
-unfolding frameAt
+unfolding aheadIn
 returns-4 c =
     let k = c .before .before in
-    (rw (le-ltb _ _ (k .before .before .if1 .left), word, le-ltb _ _ (c .before .if2 .left), le-ltb _ _ (c .if3 .left)), (omega arith, omega arith))
+    (rw (length-drop, le-ltb _ _ (k .before .before .if1 .left), word, le-ltb _ _ (c .before .if2 .left), le-ltb _ _ (c .if3 .left)), (omega arith, omega arith))
 
-pub frame-at-spec : {M : Type 1} → statement M
-frame-at-spec =
+pub ahead-at-spec : {M : Type 1} → statement M
+ahead-at-spec =
     tie.close
     (tie.spec
     sub-left
@@ -78,5 +76,4 @@ frame-at-spec =
     add-size-2
     returns-2
     returns-3
-    add-t13
     returns-4)

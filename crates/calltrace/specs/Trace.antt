@@ -1,0 +1,34 @@
+-- What calltrace writes for an input, and when the lines in hand are the last of it.
+use Prim.Native.Nat.{ℕ, _<_}
+use mathlib.Core.Bool.{Bool, true, false}
+use mathlib.Core.Path.{_≡_}
+use mathlib.Core.List.{List, [], _++_}
+use lib.ListN.{length, take, drop}
+use Rattle.callcontrol.specs.declared.call.Call.{Call}
+use Rattle.callcontrol.specs.Call.{freshCall}
+use Rattle.calltrace.specs.declared.block.Ahead.{Ahead}
+use Rattle.calltrace.specs.Line.{header, lineFor, lastLine}
+use Rattle.calltrace.specs.Block.{aheadIn, outcomeOf}
+
+-- the lines of an input, from a call record on
+pub data Trace : List ℕ → Call → List ℕ → Type 0 where
+  end : {c : Call} → Trace [] c []
+  cut : {s : List ℕ} {c : Call} → aheadIn s ≡ Ahead.Cut → 0 < length s → Trace s c (lastLine c)
+  short : {s : List ℕ} {c : Call} → aheadIn s ≡ Ahead.Short → Trace s c (lastLine c)
+  whole : {s : List ℕ} {c : Call} {text : List ℕ} (size : ℕ) → aheadIn s ≡ Ahead.Whole size
+      → Trace (drop size s) (outcomeOf c (take size s) .call) text → Trace s c (lineFor (outcomeOf c (take size s)) ++ text)
+
+-- lines that complete a trace: with those that were written before them they are the header and the lines of the input that was read
+pub record Complete (read written : ℕ) (lines : List ℕ) : Type 0 where
+  pub input : List ℕ
+  pub before : List ℕ
+  pub text : List ℕ
+  pub all-read : length input ≡ read
+  pub all-written : length before ≡ written
+  pub traced : Trace input freshCall text
+  pub said : header ++ text ≡ before ++ lines
+
+-- what is claimed of the lines in hand
+abbrev pub CompleteIf : Bool → ℕ → ℕ → List ℕ → Type 0
+CompleteIf true read written lines = Complete read written lines
+CompleteIf false read written lines = Unit {0}
