@@ -26,7 +26,7 @@ struct request {
     struct {
         uint32_t at, len; /* counted from the start of the head */
     } slice[SLICES];
-    uint32_t unused;
+    uint32_t number; /* handed in beside the slices */
 };
 _Static_assert(sizeof(struct request) == 40, "as in src/request.rs");
 
@@ -50,8 +50,9 @@ static void make_islands(void)
     }
 }
 
-static uint32_t call(unsigned function, uint8_t *const at[], const size_t len[])
+static uint32_t call(unsigned function, uint32_t number, uint8_t *const at[], const size_t len[])
 {
+    (void)number; /* the functions below take slices alone */
     switch (function) {
     case 0:
         return callcontrol_fresh(at[RECORD], len[RECORD]);
@@ -84,7 +85,7 @@ static void serve(struct request *request)
             memcpy(lent[k], home[k], len[k]);
         }
     }
-    request->word = call(request->function, lent, len);
+    request->word = call(request->function, request->number, lent, len);
     for (int k = 0; k < SLICES; k++)
         if (lent[k] != home[k])
             memcpy(home[k], lent[k], len[k]);

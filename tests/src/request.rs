@@ -3,19 +3,20 @@
 
 use std::fmt::Write;
 
+/// By the numbers that the bridge knows them by.
 #[derive(Clone, Copy, Debug, PartialEq, Eq)]
 #[repr(u8)]
 pub enum Function {
-    Fresh,
-    Step,
-    CheckEvent,
-    CheckMessage,
-    CopyEvent,
-    CopyMessage,
+    Fresh = 0,
+    Step = 1,
+    CheckEvent = 2,
+    CheckMessage = 3,
+    CopyEvent = 4,
+    CopyMessage = 5,
 }
 
 impl Function {
-    pub const ALL: [Function; 6] = [
+    pub const ALL: &'static [Function] = &[
         Function::Fresh,
         Function::Step,
         Function::CheckEvent,
@@ -23,6 +24,21 @@ impl Function {
         Function::CopyEvent,
         Function::CopyMessage,
     ];
+
+    /// Splits a result of this function into answer and what is counted.
+    pub fn split(self, word: u32) -> (u32, u32) {
+        crate::library::split(word)
+    }
+
+    /// Whether this refusal leaves every lent byte as it was.
+    pub fn keeps_all(self, answer: u32) -> bool {
+        answer != 0
+    }
+
+    /// What the address of each slice is a multiple of.
+    fn alignment(self) -> usize {
+        1
+    }
 }
 
 /// Where a slice lies while the library has it.
@@ -54,7 +70,11 @@ pub struct Request<'a> {
     /// The event or message.
     pub input: &'a [u8],
     pub out_len: usize,
-    /// What the guard bytes and the buffer hold before.
+    /// What the front of the buffer holds before.
+    pub held: &'a [u8],
+    /// What is handed in beside the slices; 0 where a function takes nothing else.
+    pub number: u32,
+    /// What the guard bytes and the rest of the buffer hold before.
     pub filler: u8,
     pub places: [Place; 3],
 }
@@ -78,14 +98,23 @@ impl<'a> Request<'a> {
         Request::of(function, &[], bytes, out_len, filler)
     }
 
-    fn of(
+    pub fn of(
         function: Function,
         record: &'a [u8],
         input: &'a [u8],
         out_len: usize,
         filler: u8,
     ) -> Request<'a> {
-        Request { function, record, input, out_len, filler, places: [Place::Between; 3] }
+        let places = [Place::Between; 3];
+        Request { function, record, input, out_len, held: &[], number: 0, filler, places }
+    }
+
+    pub fn holding(self, held: &'a [u8]) -> Request<'a> {
+        Request { held, ..self }
+    }
+
+    pub fn with(self, number: u32) -> Request<'a> {
+        Request { number, ..self }
     }
 
     pub fn at(self, places: [Place; 3]) -> Request<'a> {
@@ -99,7 +128,7 @@ impl<'a> Request<'a> {
         // So that lent bytes do not always begin at the same alignment.
         let mut end = HEAD + self.filler as usize % 8;
         let starts = lens.map(|len| {
-            let start = end + GUARD;
+            let start = (end + GUARD).next_multiple_of(self.function.alignment());
             end = start + len;
             start
         });
@@ -116,8 +145,10 @@ impl<'a> Request<'a> {
             put(frame, 12 + 8 * slice, starts[slice]);
             put(frame, 16 + 8 * slice, lens[slice]);
         }
+        put(frame, 36, self.number as usize);
         frame[starts[RECORD]..][..lens[RECORD]].copy_from_slice(self.record);
         frame[starts[INPUT]..][..lens[INPUT]].copy_from_slice(self.input);
+        frame[starts[OUT]..][..self.held.len()].copy_from_slice(self.held);
     }
 }
 
@@ -148,7 +179,14 @@ pub fn each(batch: &[u8]) -> impl Iterator<Item = &[u8]> {
 }
 
 pub fn function(frame: &[u8]) -> Function {
-    Function::ALL[frame[4] as usize]
+    let number = frame[4];
+    let known = Function::ALL.iter().find(|&&known| known as u8 == number);
+    *known.unwrap_or_else(|| panic!("no function has number {number}"))
+}
+
+/// What was handed in beside the slices.
+pub fn number(frame: &[u8]) -> u32 {
+    get(frame, 36) as u32
 }
 
 pub fn place(frame: &[u8], slice: usize) -> Place {
@@ -191,8 +229,9 @@ pub fn same_bytes(one: &[u8], other: &[u8]) -> bool {
 /// What was asked, for messages of failed tests.
 pub fn describe(frame: &[u8]) -> String {
     format!(
-        "{:?}\n  record   {}\n  input    {}\n  buffer   {} bytes",
+        "{:?} {}\n  record   {}\n  input    {}\n  buffer   {} bytes",
         function(frame),
+        number(frame),
         hex(slice(frame, RECORD)),
         hex(slice(frame, INPUT)),
         slice(frame, OUT).len()
@@ -202,10 +241,9 @@ pub fn describe(frame: &[u8]) -> String {
 /// How what the library did differs from what was expected.
 pub fn difference(before: &[u8], done: &[u8], said: &[u8]) -> String {
     let result = |frame| {
+        let (answer, count) = function(frame).split(word(frame));
         format!(
-            "answer {} count {}\n    record {}\n    buffer {}",
-            word(frame) >> 16,
-            word(frame) & 0xFFFF,
+            "answer {answer} count {count}\n    record {}\n    buffer {}",
             hex(slice(frame, RECORD)),
             hex(slice(frame, OUT))
         )

@@ -23,6 +23,7 @@ pub struct Queue {
 
 /// What is expected of a call.
 pub struct Said<'a> {
+    pub word: u32,
     pub answer: u32,
     pub count: usize,
     pub record: &'a [u8],
@@ -71,10 +72,13 @@ impl Queue {
         let [record, input, out] = request::slices_mut(said);
         let word = expected(record, input, out);
         request::set_word(said, word);
-        let (answer, count) = library::split(word);
+        let (answer, count) = request.function.split(word);
         // Said by the paper directly, whatever is expected.
         assert!(
-            answer == 0 || (count == 0 && request::same_bytes(said, &self.sent[start..])),
+            answer == 0
+                || (count == 0
+                    && (!request.function.keeps_all(answer)
+                        || request::same_bytes(said, &self.sent[start..]))),
             "a refusal that counts or changes bytes is expected of {}",
             request::describe(&self.sent[start..])
         );
@@ -83,6 +87,7 @@ impl Queue {
         }
         let said = &self.said[start..];
         Said {
+            word,
             answer,
             count: count as usize,
             record: request::slice(said, RECORD),
@@ -126,6 +131,35 @@ impl Drop for Queue {
             assert!(self.sent.is_empty(), "a queue was dropped before it was finished");
         }
     }
+}
+
+/// What the library made of a call.
+pub struct Done {
+    pub word: u32,
+    pub record: Vec<u8>,
+    pub out: Vec<u8>,
+}
+
+/// One call of which only this is expected: it returns, and changes no byte but those of the record
+/// and the buffer, and by a refusal not those. For bytes that no run gives, where the paper is silent.
+pub fn alone(request: &Request) -> Done {
+    let (mut before, mut done) = (Vec::new(), Vec::new());
+    request.push(&mut before);
+    library::perform(&before, &mut done);
+    let word = request::word(&done);
+    let (answer, _) = request.function.split(word);
+    if answer == 0 || !request.function.keeps_all(answer) {
+        for which in [RECORD, OUT] {
+            request::slices_mut(&mut before)[which].copy_from_slice(request::slice(&done, which));
+        }
+    }
+    assert!(
+        request::same_bytes(&before, &done),
+        "bytes that may not change were changed by {}",
+        request::describe(&before)
+    );
+    let [record, out] = [RECORD, OUT].map(|which| request::slice(&done, which).to_vec());
+    Done { word, record, out }
 }
 
 /// Tells what a test has seen, also when it passes (the test harness keeps back what is printed

@@ -63,10 +63,7 @@ pub fn perform(batch: &[u8], done: &mut Vec<u8>) {
 /// One call alone.
 fn call(function: Function, record: &mut [u8], input: &[u8], out: &mut [u8]) -> u32 {
     let (mut before, mut done) = (Vec::new(), Vec::new());
-    let out_len = out.len();
-    let places = [request::Place::Between; 3];
-    Request { function, record, input, out_len, filler: 0xB5, places }.push(&mut before);
-    request::slices_mut(&mut before)[OUT].copy_from_slice(out);
+    Request::of(function, record, input, out.len(), 0xB5).holding(out).push(&mut before);
     perform(&before, &mut done);
     // The bytes around, and the input, are as they were: all differences lie in record and out.
     record.copy_from_slice(request::slice(&done, RECORD));

@@ -83,10 +83,10 @@ pub fn perform(batch: &[u8], done: &mut Vec<u8>) {
         let (frame, after) = std::mem::take(&mut rest).split_at_mut(frame.len());
         rest = after;
         let places = [RECORD, INPUT, OUT].map(|slice| request::place(frame, slice));
-        let function = request::function(frame);
+        let (function, number) = (request::function(frame), request::number(frame));
         let home = request::slices_mut(frame);
         let word = if places == [Place::Between; 3] {
-            call(function, home)
+            call(function, number, home)
         } else {
             ISLANDS.with_borrow_mut(|islands| {
                 let [record, input, out] = islands;
@@ -95,7 +95,7 @@ pub fn perform(batch: &[u8], done: &mut Vec<u8>) {
                     input.lend(home[INPUT], places[INPUT]),
                     out.lend(home[OUT], places[OUT]),
                 ];
-                let word = call(function, lent.each_mut().map(|slice| &mut **slice));
+                let word = call(function, number, lent.each_mut().map(|slice| &mut **slice));
                 for (home, lent) in home.into_iter().zip(lent) {
                     home.copy_from_slice(lent);
                 }
@@ -106,7 +106,7 @@ pub fn perform(batch: &[u8], done: &mut Vec<u8>) {
     }
 }
 
-fn call(function: Function, [record, input, out]: [&mut [u8]; 3]) -> u32 {
+fn call(function: Function, _number: u32, [record, input, out]: [&mut [u8]; 3]) -> u32 {
     match function {
         Function::Fresh => fresh(record),
         Function::Step => step(record, input, out),
