@@ -154,10 +154,7 @@ fn plane_or_off(grant: u8, mode: u8) -> u64
 fn asked_after(grant: u8, asked: u8) -> u8
     ensures { λ r. ⌜ r ≡ askedAfter grant asked ⌝ }
 {
-    if grant == 0 {
-        return 0;
-    }
-    if grant == 1 {
+    if grant <= 1 {
         return 0;
     }
     asked
