@@ -1,0 +1,10 @@
+pub mod Answers
+pub mod Cases
+pub mod Claims
+pub mod Completing
+pub mod Determined
+pub mod Feeding
+pub mod Fronts
+pub mod Holding
+pub mod Seen
+pub mod Witness

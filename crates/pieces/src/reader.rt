@@ -1,0 +1,174 @@
+// The reader: one piece comes in, and at most one record is handed on, as a part of the carry or of the piece, whichever holds it entire.
+ghost use mathlib.Core.Path.{_≡_};
+ghost use Prim.Native.Nat.{_+_, _-_, _≤_, _<_};
+ghost use lib.ListN.{length, take};
+ghost use lib.Seq.{paste};
+ghost use Rattle.pieces.specs.Next.{freshReader, nextOf, kept, handedOn, asOutcome, recordIn, placeNumber};
+use crate::front::Front;
+use crate::front::front_of;
+
+// What a reader holds between two pieces; the carried bytes are at the front of the lent carry.
+pub struct Reader {
+    // 0 to 63.
+    pub carried: usize,
+    pub stopped: bool,
+}
+
+impl Reader {
+    // Carries nothing and is not stopped; a reader is reset by beginning with this one again.
+    pub fn fresh() -> Self
+        ensures { λ r. ⌜ r ≡ freshReader ⌝ }
+    {
+        Reader {
+            carried: 0,
+            stopped: false,
+        }
+    }
+}
+
+// What comes back.
+pub enum Answer {
+    // 0: taken.
+    Taken,
+    // 20: the length is impossible.
+    BadLength,
+    // 21: the reader is stopped.
+    Stopped,
+    // 22: the carry has under 64 bytes.
+    SmallCarry,
+}
+
+// Where the record is.
+pub enum Place {
+    // Nothing is handed on.
+    Nowhere,
+    // At the front of the carry.
+    Carry,
+    // At the front of the piece.
+    Piece,
+}
+
+// The answer, the record, and what is left to do with the piece: the bytes behind those used are handed in next.
+pub struct Found {
+    pub answer: Answer,
+    pub place: Place,
+    pub size: usize,
+    pub used: usize,
+    pub reader: Reader,
+}
+
+fn refused(answer: Answer, reader: Reader) -> Found
+    ensures { λ r. ⌜ r ≡ record { answer = answer; place = Place.Nowhere; size = 0; used = 0; reader = reader } ⌝ }
+{
+    Found {
+        answer,
+        place: Place::Nowhere,
+        size: 0,
+        used: 0,
+        reader,
+    }
+}
+
+// The first n bytes of the piece into the carry, behind those carried.
+fn copy(carry: &mut [u8], at: usize, piece: &[u8], n: usize)
+    requires { ⌜ (at + n ≤ length (now carry)) × (n ≤ length (now piece)) ⌝ }
+    ensures { λ _. ⌜ now (carry .exit) ≡ paste (now (carry .entry)) at (now (piece .entry)) n ⌝ }
+{
+    let mut i = 0;
+    while i < n {
+        carry[at + i] = piece[i];
+        i += 1;
+    }
+}
+
+// A piece that ends no record is carried whole.
+fn keep(carried: usize, carry: &mut [u8], piece: &[u8]) -> Found
+    requires { ⌜ carried + length (now piece) ≤ length (now carry) ⌝ }
+    ensures { λ r. ⌜ asOutcome r (now (carry .exit)) ≡ kept carried (now (carry .entry)) (now (piece .entry)) ⌝ }
+{
+    let all = piece.len();
+    copy(carry, carried, piece, all);
+    Found {
+        answer: Answer::Taken,
+        place: Place::Nowhere,
+        size: 0,
+        used: all,
+        reader: Reader {
+            carried: carried + all,
+            stopped: false,
+        },
+    }
+}
+
+// A record that the piece holds entire stays there; one that was begun is completed in the carry.
+fn hand_on(carried: usize, carry: &mut [u8], piece: &[u8], size: usize) -> Found
+    requires { ⌜ (carried < size) × (size ≤ carried + length (now piece)) × (size ≤ length (now carry)) ⌝ }
+    ensures { λ r. ⌜ asOutcome r (now (carry .exit)) ≡ handedOn carried (now (carry .entry)) (now (piece .entry)) size ⌝ }
+{
+    if carried == 0 {
+        return Found {
+            answer: Answer::Taken,
+            place: Place::Piece,
+            size,
+            used: size,
+            reader: Reader::fresh(),
+        };
+    }
+    let missing = size - carried;
+    copy(carry, carried, piece, missing);
+    Found {
+        answer: Answer::Taken,
+        place: Place::Carry,
+        size,
+        used: missing,
+        reader: Reader::fresh(),
+    }
+}
+
+// One piece: the first record that it ends, or all of it carried, or a refusal that hands nothing on.
+pub fn next(reader: Reader, carry: &mut [u8], piece: &[u8]) -> Found
+    ensures { λ r. ⌜ asOutcome r (now (carry .exit)) ≡ nextOf reader (now (carry .entry)) (now (piece .entry)) ⌝ }
+{
+    let carried = reader.carried;
+    let stopped = reader.stopped;
+    if carry.len() < 64 {
+        return refused(Answer::SmallCarry, reader);
+    }
+    if stopped {
+        return refused(Answer::Stopped, reader);
+    }
+    if carried > 63 {
+        return refused(Answer::Stopped, reader);
+    }
+    let front = front_of(carried, carry, piece);
+    match front {
+        Front::Unended => keep(carried, carry, piece),
+        Front::Whole(size) => hand_on(carried, carry, piece, size),
+        Front::Impossible => refused(
+            Answer::BadLength,
+            Reader {
+                carried: 0,
+                stopped: true,
+            },
+        ),
+    }
+}
+
+fn front_part<'a>(s: &'a [u8], size: usize) -> &'a [u8]
+    ensures { λ r. ⌜ now r ≡ take size (now (s .entry)) ⌝ }
+{
+    if size <= s.len() { &s[0..size] } else { s }
+}
+
+// The record that was handed on, as a part of the slice that holds it.
+pub fn record_in<'a>(found: Found, carry: &'a [u8], piece: &'a [u8]) -> &'a [u8]
+    ensures { λ r. ⌜ now r ≡ recordIn (placeNumber (found .place)) (found .size) (now (carry .entry)) (now (piece .entry)) ⌝ }
+{
+    let place = found.place;
+    let size = found.size;
+    match place {
+        Place::Nowhere => front_part(piece, 0),
+        Place::Carry => front_part(carry, size),
+        Place::Piece => front_part(piece, size),
+    }
+}
