@@ -1,10 +1,15 @@
 //! One step uses less than 1 KiB of stack, measured on a painted one.
 
+use callcontrol_tests::library::BRIDGED;
 use callcontrol_tests::programs::stack_used;
 use callcontrol_tests::tape::tape;
 
 #[test]
 fn a_step_uses_less_than_a_kibibyte_of_stack() {
+    if cfg!(not(target_arch = "x86_64")) && !BRIDGED {
+        println!("not measured: this is not the library that is shipped, which is x86-64 code");
+        return;
+    }
     let mut events = Vec::new();
     for event in tape().events() {
         events.extend((event.len() as u32).to_le_bytes());

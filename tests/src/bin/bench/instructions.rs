@@ -1,18 +1,16 @@
-//! How many instructions one step takes: the emulator is asked to log each, and the lines are counted.
+//! How many instructions one step takes: the bridge, a small program that calls the library, is run
+//! under the emulator, which logs each instruction, or under valgrind, which counts them.
 
-use callcontrol_tests::tape::{tape, OUT_LEN};
 use callcontrol_tests::account::{boundary, Call};
-use callcontrol_tests::{programs, request::Request};
+use callcontrol_tests::programs;
+use callcontrol_tests::request::Request;
+use callcontrol_tests::tape::{tape, OUT_LEN};
 use std::io::{BufRead, BufReader, Write};
-use std::process::Stdio;
+use std::process::{Command, Stdio};
 
 const STEPS: usize = 2000;
 
 pub fn main() {
-    println!(
-        "The library is called over a bridge here. Time and stack beside the account are only"
-    );
-    println!("measured where it is linked, on x86-64.");
     let (mut steps, mut refusals) = (Vec::new(), Vec::new());
     let mut record = Call::FRESH.pack();
     for event in tape().events().take(STEPS) {
@@ -24,17 +22,43 @@ pub fn main() {
     match (count(&steps), count(&refusals)) {
         (Some(steps), Some(refusals)) => {
             let each = steps.saturating_sub(refusals) / STEPS;
-            println!("{each} x86-64 instructions per step, over {STEPS} steps of the tape");
+            println!("{each} instructions per step, over {STEPS} steps of the tape");
         }
-        _ => println!("Instructions are not counted: the emulator does not log them."),
+        _ => {
+            println!("Instructions are not counted: that takes an emulator that logs, or valgrind.")
+        }
     }
+}
+
+/// The bridge and how its instructions are found in what is logged: the ways to try, one after another.
+#[cfg(bridged)]
+fn ways() -> Vec<(Command, fn(&str) -> usize)> {
+    let traced = |line: &str| usize::from(line.starts_with("Trace"));
+    // The name of the option has changed between versions.
+    ["-one-insn-per-tb", "-singlestep"]
+        .into_iter()
+        .filter_map(|one_by_one| programs::bridge(&[one_by_one, "-d", "exec,nochain"]))
+        .map(|bridge| (bridge, traced as fn(&str) -> usize))
+        .collect()
+}
+
+#[cfg(not(bridged))]
+fn ways() -> Vec<(Command, fn(&str) -> usize)> {
+    let program = std::path::Path::new(env!("OUT_DIR")).join("counted");
+    programs::build(programs::CC, &["-std=c11", "-O2"], "tests/bridge/bridge.c", &program);
+    let mut command = Command::new("valgrind");
+    command.args(["--tool=callgrind", "--callgrind-out-file=/dev/null"]).arg(program);
+    let collected = |line: &str| {
+        let said = line.split_once("Collected :").map(|(_, count)| count.trim());
+        said.and_then(|count| count.parse().ok()).unwrap_or(0)
+    };
+    vec![(command, collected)]
 }
 
 /// The instructions the bridge takes to serve this batch, its start and end included.
 fn count(batch: &[u8]) -> Option<usize> {
-    // The name of the option has changed between versions.
-    ["-one-insn-per-tb", "-singlestep"].into_iter().find_map(|one_by_one| {
-        let mut bridge = programs::bridge(&[one_by_one, "-d", "exec,nochain"])?
+    ways().into_iter().find_map(|(mut command, instructions_in)| {
+        let mut bridge = command
             .stdin(Stdio::piped())
             .stdout(Stdio::null())
             .stderr(Stdio::piped())
@@ -43,9 +67,8 @@ fn count(batch: &[u8]) -> Option<usize> {
         let mut to = bridge.stdin.take()?;
         let batch = [&(batch.len() as u32).to_le_bytes(), batch].concat();
         let writer = std::thread::spawn(move || to.write_all(&batch).is_ok());
-        let lines = BufReader::new(bridge.stderr.take()?).split(b'\n');
-        let count = lines.filter(|line| line.as_ref().is_ok_and(|line| line.starts_with(b"Trace")));
-        let count = count.count();
+        let lines = BufReader::new(bridge.stderr.take()?).lines();
+        let count = lines.map_while(Result::ok).map(|line| instructions_in(&line)).sum();
         let served = writer.join().is_ok_and(|written| written);
         (bridge.wait().ok()?.success() && served && count > 0).then_some(count)
     })

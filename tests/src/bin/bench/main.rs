@@ -1,14 +1,17 @@
-//! Measures the library: beside the account where it is linked into the same process, and where it
-//! is emulated by the instructions it takes.
+//! Measures the library: time and stack beside the account where it is linked into the same process,
+//! and the instructions that it takes.
 
-#[cfg(bridged)]
 mod instructions;
 #[cfg(not(bridged))]
 mod measure;
 
 fn main() {
+    #[cfg(bridged)]
+    println!(
+        "The library is called over a bridge here; tests/at_hand.sh builds one for this machine, of \
+         which time and stack can be measured."
+    );
     #[cfg(not(bridged))]
     measure::main();
-    #[cfg(bridged)]
     instructions::main();
 }

@@ -5,9 +5,9 @@
 //! and once more with the record kept unpacked, which is what a host in Rust would do. Rounds
 //! alternate, so that both see the same weather, and the best round of each counts.
 
-use callcontrol_tests::tape::{tape, Tape, EVENTS, OUT_LEN};
 use callcontrol_tests::account::{boundary, Call};
 use callcontrol_tests::library;
+use callcontrol_tests::tape::{tape, Tape, EVENTS, OUT_LEN};
 use std::hint::black_box;
 use std::time::Instant;
 
