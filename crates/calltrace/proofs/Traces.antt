@@ -18,6 +18,12 @@ use Rattle.calltrace.specs.Line.{header, lineFor, endLines}
 use Rattle.calltrace.specs.Block.{aheadIn, outcomeOf, Lines, none, more, Traced}
 use Rattle.calltrace.specs.Trace.{Trace, end, cut, short, whole, Complete}
 
+-- to tell them apart
+abbrev tag : Ahead → ℕ
+tag Ahead.Cut = 0
+tag Ahead.Short = 1
+tag (Ahead.Whole size) = 2
+
 -- what a whole record says of the bytes, and the other way round
 record WholeIn (s : List ℕ) (size : ℕ) : Type 0 where
   two : 2 ≤ length s
@@ -27,9 +33,9 @@ record WholeIn (s : List ℕ) (size : ℕ) : Type 0 where
 
 by-tests : (a b d : Bool) (n m : ℕ) → cond a Ahead.Cut (cond b Ahead.Short (cond d Ahead.Cut (Ahead.Whole n))) ≡ Ahead.Whole m
     → (a ≡ false) × (b ≡ false) × (d ≡ false) × (n ≡ m)
-by-tests true b d n m e = let z : _≡_ {A = ℕ} 0 1 = cc in absurd (omega arith)
-by-tests false true d n m e = let z : _≡_ {A = ℕ} 0 1 = cc in absurd (omega arith)
-by-tests false false true n m e = let z : _≡_ {A = ℕ} 0 1 = cc in absurd (omega arith)
+by-tests true b d n m e = absurd (omega (arith, ap tag e))
+by-tests false true d n m e = absurd (omega (arith, ap tag e))
+by-tests false false true n m e = absurd (omega (arith, ap tag e))
 by-tests false false false n m e = (refl, refl, refl, cc)
 
 whole-in : (s : List ℕ) {size : ℕ} → aheadIn s ≡ Ahead.Whole size → WholeIn s size
@@ -90,19 +96,19 @@ nothing = refl
 pub one-trace : {s t u : List ℕ} {c : Call} → Trace s c t → Trace s c u → t ≡ u
 one-trace end end = refl
 one-trace end (cut h k) = absurd (omega arith)
-one-trace end (short h) = let z : _≡_ {A = ℕ} 0 1 = cc nothing in absurd (omega arith)
-one-trace end (whole size h q) = let z : _≡_ {A = ℕ} 0 1 = cc nothing in absurd (omega arith)
+one-trace end (short h) = absurd (omega (arith, ap tag (sym nothing ∙ h)))
+one-trace end (whole size h q) = absurd (omega (arith, ap tag (sym nothing ∙ h)))
 one-trace (cut h k) end = absurd (omega arith)
 one-trace (cut h k) (cut h' k') = refl
 one-trace (cut h k) (short h') = refl
-one-trace (cut h k) (whole size h' q) = let z : _≡_ {A = ℕ} 0 1 = cc in absurd (omega arith)
-one-trace (short h) end = let z : _≡_ {A = ℕ} 0 1 = cc nothing in absurd (omega arith)
+one-trace (cut h k) (whole size h' q) = absurd (omega (arith, ap tag (sym h ∙ h')))
+one-trace (short h) end = absurd (omega (arith, ap tag (sym nothing ∙ h)))
 one-trace (short h) (cut h' k) = refl
 one-trace (short h) (short h') = refl
-one-trace (short h) (whole size h' q) = let z : _≡_ {A = ℕ} 0 1 = cc in absurd (omega arith)
-one-trace (whole size h p) end = let z : _≡_ {A = ℕ} 0 1 = cc nothing in absurd (omega arith)
-one-trace (whole size h p) (cut h' k) = let z : _≡_ {A = ℕ} 0 1 = cc in absurd (omega arith)
-one-trace (whole size h p) (short h') = let z : _≡_ {A = ℕ} 0 1 = cc in absurd (omega arith)
+one-trace (short h) (whole size h' q) = absurd (omega (arith, ap tag (sym h ∙ h')))
+one-trace (whole size h p) end = absurd (omega (arith, ap tag (sym nothing ∙ h)))
+one-trace (whole size h p) (cut h' k) = absurd (omega (arith, ap tag (sym h ∙ h')))
+one-trace (whole size h p) (short h') = absurd (omega (arith, ap tag (sym h ∙ h')))
 one-trace {s} {c = c} (whole size h p) (whole size' h' q) =
     let e : size' ≡ size = cc in rw e (ap (λ (l : List ℕ). lineFor (outcomeOf c (take size s)) ++ l) (one-trace p (rw e at q)))
 
