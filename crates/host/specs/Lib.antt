@@ -2,3 +2,4 @@ pub mod Packing
 pub mod Entries
 pub mod Laws
 pub mod Runs
+pub mod SerialLine

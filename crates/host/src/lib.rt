@@ -9,6 +9,7 @@ ghost use Rattle.records.specs.Messages.{messages, asMessageRead};
 ghost use Rattle.host.specs.Entries.{Left, freshened, hostStep, readWord, wroteWord, checked, copied};
 
 mod packed;
+mod serial;
 
 use crate::packed::held;
 use crate::packed::is_record;

@@ -126,7 +126,7 @@ pub fn held(s: &[u8]) -> Call
     }
 }
 
-fn flag(b: bool) -> u8
+pub fn flag(b: bool) -> u8
     ensures { λ r. ⌜ r ≡ flag b ⌝ }
 {
     if b { 1 } else { 0 }

@@ -1,7 +1,7 @@
 -- What `next` answers, from what its callees give.
 use Prim.Native.Nat.{ℕ, _+_, _≤_, _<_}
 use mathlib.Core.Path.{_≡_, sym, _∙_}
-use mathlib.Core.Bool.{Bool, true, false}
+use mathlib.Core.Bool.{true, false}
 use mathlib.Core.List.{List, _++_}
 use native.Mathlib.Omega.{arith}
 use borrow.Author.Tests.{lt-ltb, le-ltb}
@@ -14,7 +14,7 @@ use Rattle.pieces.specs.declared.reader.Reader.{Reader}
 use Rattle.pieces.specs.declared.reader.Found.{Found}
 use Rattle.pieces.specs.Stream.{front, byFront}
 use Rattle.pieces.specs.Next.{Outcome, asOutcome, stoppedReader, refusal, kept, handedOn, begun, found, nextOf}
-use Rattle.pieces.proofs.Fronts.{Wholly, unended-short, whole-is, begun-unended, begun-whole}
+use Rattle.pieces.proofs.Fronts.{unended-short, whole-is, begun-unended, begun-whole}
 use Rattle.pieces.proofs.Seen.{seen-length}
 
 abbrev refusedAs : Answer → Reader → Found

@@ -6,16 +6,16 @@ use mathlib.Core.List.{List, [], _∷_, _++_}
 use native.Mathlib.Omega.{arith}
 use borrow.Author.Tests.{ltb-false, le-leb, eq-eqb, eqb-false}
 use lib.Dec.{eqb, ltb, eqb·suc-zero}
-use lib.ListN.{length, getD, take, drop, length-drop}
+use lib.ListN.{length, take, drop, length-drop}
 use lib.Seq.{paste, length-take-le, getD-take}
 use Rattle.pieces.specs.declared.front.Front.{Front}
 use Rattle.pieces.specs.declared.front.Front.the-variants.{Unended, Whole, Impossible}
 use Rattle.pieces.specs.declared.reader.Reader.{Reader}
-use Rattle.pieces.specs.Stream.{lengthField, front, byFront}
+use Rattle.pieces.specs.Stream.{front, byFront}
 use Rattle.pieces.specs.Next.{Outcome, stoppedReader, refusal, kept, handedOn, begun, found, nextOf, recordIn}
 use Rattle.pieces.specs.Runs.{Fed, foundThen, feedWithin, feed, run}
 use Rattle.pieces.specs.Claims.{isRecord, every?, Uses, isImpossible, applies, Answered, Refused, Small, SmallNumbers, BytesUsed, LoopEnds, WholeRecords}
-use Rattle.pieces.proofs.Completing.{rest-there, completed}
+use Rattle.pieces.proofs.Completing.{completed}
 use Rattle.pieces.proofs.Fronts.{Wholly, whole-is, unended-short, begun-unended, begun-whole}
 use Rattle.pieces.proofs.Seen.{seen-length}
 

@@ -1,7 +1,7 @@
 -- The claims of specs/Claims.antt, each proved.
-use Prim.Native.Nat.{ℕ, _≤_, _<_}
+use Prim.Native.Nat.{ℕ}
 use mathlib.Core.Path.{_≡_, refl, sym, _∙_, ap}
-use mathlib.Core.Bool.{Bool, true, false, cond}
+use mathlib.Core.Bool.{Bool, true, false}
 use mathlib.Core.List.{List, [], _∷_, _++_, append-nil}
 use native.Mathlib.Omega.{arith}
 use borrow.Author.Tests.{ltb-true, ltb-false}
@@ -10,10 +10,10 @@ use lib.ListN.{length}
 use Rattle.pieces.specs.declared.reader.Reader.{Reader}
 use Rattle.pieces.specs.Stream.{Held, holds}
 use Rattle.pieces.specs.Next.{freshReader, stoppedReader}
-use Rattle.pieces.specs.Runs.{Fed, run, shown, joined}
+use Rattle.pieces.specs.Runs.{run, joined}
 use Rattle.pieces.specs.Claims.{HoldsByFront, EveryCutting, AsInOnePiece, NothingLost, StoppedThere, WholeRecords, BytesUsed, LoopEnds, StoppedCarriesNothing, StoppedRefuses, StaysStopped, SmallCarry, Answered, Refused, SmallNumbers}
 use Rattle.pieces.proofs.Cases as cases
-use Rattle.pieces.proofs.Feeding.{Standing, goes, halted, Runs, from-fresh, stopped-next, small-next, refused-run}
+use Rattle.pieces.proofs.Feeding.{Standing, goes, halted, from-fresh, stopped-next, small-next, refused-run}
 use Rattle.pieces.proofs.Holding.{by-front, follows}
 
 pub holds-by-front : HoldsByFront

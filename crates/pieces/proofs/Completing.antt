@@ -7,7 +7,7 @@ use lib.ListN.{length, take, drop}
 use lib.Seq.{paste, take-paste, length-paste, length-take-le, take-append-add, drop-append-add}
 use Rattle.pieces.specs.declared.front.Front.the-variants.{Whole}
 use Rattle.pieces.specs.Stream.{front}
-use Rattle.pieces.proofs.Fronts.{Wholly, whole-is}
+use Rattle.pieces.proofs.Fronts.{whole-is}
 use Rattle.pieces.proofs.Seen.{seen-length}
 
 module _ (c : ℕ) (carry piece : List ℕ) (within : c ≤ length carry) {n : ℕ} (e : front (take c carry ++ piece) ≡ Whole n) (more : c < n) where

@@ -7,17 +7,17 @@ use native.Mathlib.Omega.{arith}
 use borrow.Author.Tests.{lt-ltb, le-ltb, ltb-true, ltb-false}
 use lib.Dec.{ltb, lit≤, eqb·suc-zero}
 use lib.ListN.{length, take, drop, length-drop}
-use lib.Seq.{paste, take-paste, length-paste, take-length, length-take-le, take-append-add, drop-append-add}
+use lib.Seq.{paste, take-paste, length-paste, take-length, length-take-le}
 use Rattle.pieces.specs.declared.front.Front.{Front}
 use Rattle.pieces.specs.declared.front.Front.the-variants.{Unended, Whole, Impossible}
 use Rattle.pieces.specs.declared.reader.Reader.{Reader}
-use Rattle.pieces.specs.Stream.{lengthField, front, byFront, Held, left, stop, after, holds}
+use Rattle.pieces.specs.Stream.{front, byFront, Held, left, after, holds}
 use Rattle.pieces.specs.Next.{Outcome, freshReader, stoppedReader, refusal, kept, handedOn, begun, found, nextOf}
 use Rattle.pieces.specs.Runs.{Fed, foundThen, feedWithin, feed, fedThen, run, shown, joined}
 use Rattle.pieces.specs.Claims.{each}
 use Rattle.pieces.proofs.Answers.{goes-on}
 use Rattle.pieces.proofs.Completing.{rest-there, completed, left-over, same-size}
-use Rattle.pieces.proofs.Fronts.{Wholly, whole-is, unended-short, unended-more, same-length-field}
+use Rattle.pieces.proofs.Fronts.{whole-is, unended-short, unended-more, same-length-field}
 use Rattle.pieces.proofs.Holding.{behind, thenMore, holds-unended, holds-whole, holds-impossible, holds-append}
 use Rattle.pieces.proofs.Seen.{seen-length}
 

@@ -2,7 +2,7 @@
 use Prim.Native.Nat.{ℕ, zero, suc, _+_, _-_, _≤_, _<_}
 use mathlib.Core.Path.{_≡_, refl, sym, _∙_, ap}
 use mathlib.Core.Bool.{Bool, true, false, cond}
-use mathlib.Core.List.{List, [], _∷_, _++_, append-assoc, append-nil}
+use mathlib.Core.List.{List, _∷_, _++_, append-assoc}
 use native.Mathlib.Omega.{arith}
 use borrow.Author.Tests.{lt-ltb}
 use lib.ListN.{length, take, drop, length-drop, take-append-drop}
@@ -12,7 +12,7 @@ use Rattle.pieces.specs.declared.front.Front.the-variants.{Unended, Whol
 use Rattle.pieces.specs.Stream.{front, byFront, Held, left, stop, after, holdsWithin, holds}
 use Rattle.pieces.specs.Runs.{joined}
 use Rattle.pieces.specs.Claims.{Holds}
-use Rattle.pieces.proofs.Fronts.{Wholly, whole-is, whole-append, impossible-append}
+use Rattle.pieces.proofs.Fronts.{whole-is, whole-append, impossible-append}
 
 brief : (s : List ℕ) → length s < 2 → front s ≡ Unended
 unfolding front
@@ -98,13 +98,12 @@ holds-append s t = append-within t (length s) s (omega arith)
 
 -- ---- the records and what follows them are the input
 
-module _ where
-  -- what follows the records: the bytes left, or those that begin with the impossible length
-  pub record Follows (s : List ℕ) : Type 0 where
-    pub rest : List ℕ
-    pub all : joined (holds s .records) ++ rest ≡ s
-    pub kept : holds s .stopped ≡ false → rest ≡ holds s .left
-    pub bad : holds s .stopped ≡ true → front rest ≡ Impossible
+-- what follows the records: the bytes left, or those that begin with the impossible length
+pub record Follows (s : List ℕ) : Type 0 where
+  pub rest : List ℕ
+  pub all : joined (holds s .records) ++ rest ≡ s
+  pub kept : holds s .stopped ≡ false → rest ≡ holds s .left
+  pub bad : holds s .stopped ≡ true → front rest ≡ Impossible
 
 follows-after : (s : List ℕ) (n : ℕ) {h : Held} (rest : List ℕ) → h ≡ after (take n s) (holds (drop n s))
     → joined (holds (drop n s) .records) ++ rest ≡ drop n s → joined (h .records) ++ rest ≡ s

@@ -6,13 +6,9 @@ use native.Mathlib.Omega.{arith}
 use borrow.Author.Tests.{lt-ltb, le-ltb, le-leb, lt-leb}
 use lib.ListN.{length, getD, take, length-append, List·getD-append}
 use lib.Seq.{length-take-le, getD-take, getD-append-add}
-use Rattle.pieces.specs.declared.front.Front.{Front}
 use Rattle.pieces.specs.declared.front.Front.the-variants.{Unended, Whole, Impossible}
-use Rattle.pieces.specs.Stream.{lengthField, front}
+use Rattle.pieces.specs.Stream.{front}
 use Rattle.pieces.specs.Next.{begun}
-
-abbrev seen : ℕ → List ℕ → List ℕ → List ℕ
-seen c carry piece = take c carry ++ piece
 
 module _ (c : ℕ) (carry piece : List ℕ) (within : c ≤ length carry) where
   pub seen-length : length (take c carry ++ piece) ≡ c + length piece

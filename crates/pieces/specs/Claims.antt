@@ -10,9 +10,9 @@ use Rattle.pieces.specs.declared.front.Front.{Front}
 use Rattle.pieces.specs.declared.front.Front.the-variants.{Unended, Whole, Impossible}
 use Rattle.pieces.specs.declared.reader.Reader.{Reader}
 use Rattle.pieces.specs.declared.reader.Found.{Found}
-use Rattle.pieces.specs.Stream.{lengthField, possible, front, byFront, Held, left, stop, after, holds}
-use Rattle.pieces.specs.Next.{Outcome, asOutcome, freshReader, stoppedReader, refusal, begun, nextOf, recordIn}
-use Rattle.pieces.specs.Runs.{Fed, feedWithin, feed, run, shown, joined}
+use Rattle.pieces.specs.Stream.{lengthField, possible, front, byFront, left, stop, after, holds}
+use Rattle.pieces.specs.Next.{Outcome, asOutcome, freshReader, stoppedReader, refusal, begun, nextOf}
+use Rattle.pieces.specs.Runs.{feedWithin, feed, run, shown, joined}
 
 -- the definition without its bound: by the front alone
 pub record Holds (s : List ℕ) : Type 0 where

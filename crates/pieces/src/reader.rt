@@ -3,7 +3,7 @@ ghost use mathlib.Core.Path.{_≡_};
 ghost use Prim.Native.Nat.{_+_, _-_, _≤_, _<_};
 ghost use lib.ListN.{length, take};
 ghost use lib.Seq.{paste};
-ghost use Rattle.pieces.specs.Next.{freshReader, nextOf, kept, handedOn, asOutcome, recordIn, placeNumber};
+ghost use Rattle.pieces.specs.Next.{freshReader, nextOf, kept, handedOn, asOutcome, recordIn, answerNumber, placeNumber};
 use crate::front::Front;
 use crate::front::front_of;
 
@@ -46,6 +46,31 @@ pub enum Place {
     Carry,
     // At the front of the piece.
     Piece,
+}
+
+// The number of an answer.
+pub fn answer_number(answer: Answer) -> u32
+    ensures { λ r. ⌜ r ≡ answerNumber answer ⌝ }
+    ensures { λ r. ⌜ r < 23 ⌝ }
+{
+    match answer {
+        Answer::Taken => 0,
+        Answer::BadLength => 20,
+        Answer::Stopped => 21,
+        Answer::SmallCarry => 22,
+    }
+}
+
+// The number of a place.
+pub fn place_number(place: Place) -> u32
+    ensures { λ r. ⌜ r ≡ placeNumber place ⌝ }
+    ensures { λ r. ⌜ r < 3 ⌝ }
+{
+    match place {
+        Place::Nowhere => 0,
+        Place::Carry => 1,
+        Place::Piece => 2,
+    }
 }
 
 // The answer, the record, and what is left to do with the piece: the bytes behind those used are handed in next.
