@@ -32,6 +32,8 @@ extern "C" {
 #define CALLCONTROL_T310_CODE_MAX 15u       /* o */
 #define CALLCONTROL_T310_CODE_ABSENT 16u    /* o in D-INFO and D-CALL RESTORE: none given */
 #define CALLCONTROL_TX_INDICATION_MAX 8u    /* x */
+#define CALLCONTROL_READER_SIZE 2u          /* bytes of a reader of pieces */
+#define CALLCONTROL_CARRY_SIZE 64u          /* bytes of its carry, and of the longest record it hands on */
 
 /* ---- Answers ------------------------------------------------------------------------------- */
 
@@ -45,6 +47,13 @@ enum callcontrol_answer {
     CALLCONTROL_OTHER_CALL = 5,   /* a network event whose identifier is not the held one */
     CALLCONTROL_NO_ROW = 6,       /* nothing is foreseen for this event in this state */
     CALLCONTROL_NO_ROOM = 7       /* the messages are longer than the lent buffer */
+};
+
+/* Of callcontrol_pieces_next: 0 and 1 as above, and these, in the order 22, 21, 20. */
+enum callcontrol_pieces_answer {
+    CALLCONTROL_LENGTH_IMPOSSIBLE = 20, /* a length below 4 or above 64: the reader stops */
+    CALLCONTROL_READER_STOPPED = 21,    /* and stays so until callcontrol_pieces_fresh */
+    CALLCONTROL_CARRY_TOO_SHORT = 22    /* the carry has under 64 bytes */
 };
 
 /* ---- The call record ----------------------------------------------------------------------- */
@@ -229,6 +238,63 @@ static inline unsigned int callcontrol_answer_of(uint32_t result)
 static inline size_t callcontrol_count_of(uint32_t result)
 {
     return (size_t)(result & 0xFFFFu);
+}
+
+/* ---- Records from a serial line ------------------------------------------------------------ */
+
+/*
+ * A modem splits a record over several reads or hands over three at once. A host keeps a reader
+ * (2 bytes: how many bytes are carried, 0 to 63; whether it is stopped) and its carry (64 bytes),
+ * and hands over each piece that it read, and then what is left of the piece, until nothing is
+ * found. However the line is cut, the same records come out in the same order.
+ */
+
+enum callcontrol_where {
+    CALLCONTROL_NOWHERE = 0,
+    CALLCONTROL_IN_CARRY = 1, /* at the front of the carry */
+    CALLCONTROL_IN_PIECE = 2  /* at the front of the piece */
+};
+
+/*
+ * Makes a reader fresh, or resets it: nothing is carried and it is not stopped. Counts its 2
+ * bytes; answer 1 in the result's highest byte and nothing written if reader_len is not 2.
+ */
+uint32_t callcontrol_pieces_fresh(uint8_t *reader, size_t reader_len);
+
+/*
+ * Takes a piece of any length, also 0, and hands on the first record that ends in it, as the first
+ * bytes of the piece or, if it began in an earlier piece, of the carry, where it stays until the
+ * next call. Returns answer * 2^24 + where * 2^16 + size * 2^8 + bytes of the piece used. Where
+ * nothing is found the whole piece was used, and its bytes are carried. A refusal has 0 in all
+ * three and changes no byte of the carry: 1 if the bytes are no reader, 22, 21, or 20, which stops
+ * the reader, with nothing carried.
+ */
+uint32_t callcontrol_pieces_next(uint8_t *reader, size_t reader_len,
+                                 uint8_t *carry, size_t carry_len,
+                                 const uint8_t *piece, size_t piece_len);
+
+/* The answer in a result of callcontrol_pieces_next. */
+static inline unsigned int callcontrol_pieces_answer_of(uint32_t result)
+{
+    return (unsigned int)(result >> 24);
+}
+
+/* Where the record is, one of enum callcontrol_where. */
+static inline unsigned int callcontrol_where_of(uint32_t result)
+{
+    return (unsigned int)(result >> 16 & 0xFFu);
+}
+
+/* How many bytes the record has. */
+static inline size_t callcontrol_size_of(uint32_t result)
+{
+    return (size_t)(result >> 8 & 0xFFu);
+}
+
+/* How many bytes of the piece were used; those behind them are handed over next. */
+static inline size_t callcontrol_used_of(uint32_t result)
+{
+    return (size_t)(result & 0xFFu);
 }
 
 #ifdef __cplusplus

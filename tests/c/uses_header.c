@@ -16,6 +16,36 @@ SAME(CALLCONTROL_NO_ROOM == 7);
 SAME(CALLCONTROL_EVENT_MAX == CALLCONTROL_HEAD_SIZE + 7);
 SAME(CALLCONTROL_MESSAGE_MAX == CALLCONTROL_HEAD_SIZE + 7);
 
+/* A record that comes in two pieces is handed on from the carry, and one in one piece from there. */
+static int reads_pieces(void)
+{
+    uint8_t reader[CALLCONTROL_READER_SIZE];
+    uint8_t carry[CALLCONTROL_CARRY_SIZE];
+    const uint8_t line[] = {4, 0, 0x01, 0x03, 4, 0, 0x03, 0x03, 3, 0}; /* REPORT sent, BREAK, no length */
+    uint32_t result = callcontrol_pieces_fresh(reader, sizeof reader);
+
+    if (result != CALLCONTROL_READER_SIZE)
+        return 11;
+    result = callcontrol_pieces_next(reader, sizeof reader, carry, sizeof carry, line, 3);
+    if (callcontrol_where_of(result) != CALLCONTROL_NOWHERE || callcontrol_used_of(result) != 3)
+        return 12;
+    result = callcontrol_pieces_next(reader, sizeof reader, carry, sizeof carry, line + 3, 7);
+    if (callcontrol_where_of(result) != CALLCONTROL_IN_CARRY || callcontrol_size_of(result) != 4
+        || callcontrol_used_of(result) != 1 || carry[3] != 0x03)
+        return 13;
+    result = callcontrol_pieces_next(reader, sizeof reader, carry, sizeof carry, line + 4, 6);
+    if (callcontrol_where_of(result) != CALLCONTROL_IN_PIECE || callcontrol_used_of(result) != 4)
+        return 14;
+    result = callcontrol_pieces_next(reader, sizeof reader, carry, sizeof carry, line + 8, 2);
+    if (callcontrol_pieces_answer_of(result) != CALLCONTROL_LENGTH_IMPOSSIBLE)
+        return 15;
+    result = callcontrol_pieces_next(reader, sizeof reader, carry, sizeof carry, line, 4);
+    if (callcontrol_pieces_answer_of(result) != CALLCONTROL_READER_STOPPED)
+        return 16;
+    result = callcontrol_pieces_next(reader, sizeof reader, carry, 63, line, 4);
+    return callcontrol_pieces_answer_of(result) == CALLCONTROL_CARRY_TOO_SHORT ? 0 : 17;
+}
+
 int main(void)
 {
     uint8_t call[CALLCONTROL_RECORD_SIZE];
@@ -42,5 +72,7 @@ int main(void)
     if (callcontrol_copy_message(out, out[0], copy, sizeof copy) != out[0])
         return 7;
     result = callcontrol_step(call, sizeof call, event, sizeof event, out, sizeof out);
-    return callcontrol_answer_of(result) == CALLCONTROL_NO_ROW ? 0 : 8;
+    if (callcontrol_answer_of(result) != CALLCONTROL_NO_ROW)
+        return 8;
+    return reads_pieces();
 }
