@@ -4,7 +4,7 @@ use crate::histories::root;
 use std::env;
 use std::ffi::OsStr;
 use std::io::{Read, Write};
-use std::path::{Path, PathBuf};
+use std::path::Path;
 use std::process::{Command, ExitStatus, Stdio};
 use std::sync::mpsc;
 use std::thread;
@@ -46,19 +46,12 @@ pub fn stack_used(source: &str, tape: &[u8]) -> usize {
     let name = Path::new(source).file_stem().expect("a file").to_string_lossy();
     let program = env::temp_dir().join(format!("{name}-{}", std::process::id()));
     build(CC, &["-std=gnu11", "-O2", "-Wall", "-Wextra", "-Werror"], source, &program);
-    let mut measure = run(&program)
-        .stdin(Stdio::piped())
-        .stdout(Stdio::piped())
-        .spawn()
-        .expect("the program starts");
-    measure.stdin.take().expect("a pipe").write_all(tape).expect("it reads the tape");
-    let output = measure.wait_with_output().expect("it ends");
+    let ran = run_within(run(&program), Some(tape), &LIMITS);
     for file in [&program, &program.with_extension("o")] {
         let _ = std::fs::remove_file(file);
     }
-    assert!(output.status.success(), "{source}: {}", output.status);
-    let said = String::from_utf8(output.stdout).expect("it prints text");
-    said.trim().parse().expect("it prints a number")
+    assert!(ran.status.success(), "{source}: {}", ran.status);
+    ran.stdout.trim().parse().expect("it prints a number")
 }
 
 /// The bridge, under an emulator with these options; none where there is no emulator.

@@ -11,7 +11,9 @@ fn main() {
         "The library is called over a bridge here; tests/at_hand.sh builds one for this machine, of \
          which time and stack can be measured."
     );
-    #[cfg(not(bridged))]
-    measure::main();
     instructions::main();
+    #[cfg(not(bridged))]
+    {
+        measure::main();
+    }
 }
