@@ -66,6 +66,11 @@ static uint32_t call(unsigned function, uint32_t number, uint8_t *const at[], co
         return callcontrol_copy_event(at[INPUT], len[INPUT], at[OUT], len[OUT]);
     case 5:
         return callcontrol_copy_message(at[INPUT], len[INPUT], at[OUT], len[OUT]);
+    case 6:
+        return callcontrol_pieces_fresh(at[RECORD], len[RECORD]);
+    case 7:
+        return callcontrol_pieces_next(at[RECORD], len[RECORD], at[OUT], len[OUT], at[INPUT],
+                                       len[INPUT]);
     }
     fail("no such function");
     return 0;

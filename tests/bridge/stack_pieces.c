@@ -1,67 +1,51 @@
 /*
- * How much stack a piece of a serial line uses. Standard input is fed to the reader on a painted
- * stack, in pieces of 0 to 70 bytes, twice with another paint, since what is written may happen to
- * be one of them. Prints how many bytes below the caller's stack the paint is gone, the return
- * address included. For x86-64 Linux, where the library is linked.
+ * How much stack callcontrol_pieces_next uses. Standard input is pieces one after another, each after
+ * its length as u32; a piece is handed in until nothing more is found in it, and a reader that has
+ * stopped is reset. Prints the bytes used, the return address included.
  */
 #include "callcontrol.h"
+#include "painted.h"
 #include <stdio.h>
-#include <string.h>
 
-enum { STACK = 65536 };
+static uint8_t tape[1 << 22];
+static size_t tape_len;
 
-static uint8_t stack[STACK] __attribute__((aligned(16)));
-static uint8_t reader[CALLCONTROL_READER_SIZE], carry[CALLCONTROL_CARRY_SIZE];
-static uint8_t line[1 << 16];
+typedef uint32_t pieces_next(uint8_t *, size_t, uint8_t *, size_t, const uint8_t *, size_t);
+static pieces_next *volatile next;
 
-static uint32_t next_on(uint8_t *top, const uint8_t *piece, size_t piece_len)
+static __attribute__((noinline)) uint32_t nothing(uint8_t *reader, size_t reader_len,
+                                                  uint8_t *carry, size_t carry_len,
+                                                  const uint8_t *piece, size_t piece_len)
 {
-    register const uint8_t *at __asm__("r8") = piece;
-    register size_t len __asm__("r9") = piece_len;
-    uint8_t *reader_at = reader, *carry_at = carry;
-    size_t reader_len = sizeof reader, carry_len = sizeof carry;
-    uint64_t word;
-    /* The library's own code keeps rbx as it finds it. */
-    __asm__ volatile("mov %%rsp, %%rbx\n\t"
-                     "mov %[top], %%rsp\n\t"
-                     "call callcontrol_pieces_next\n\t"
-                     "mov %%rbx, %%rsp"
-                     : "=a"(word), "+D"(reader_at), "+S"(reader_len), "+d"(carry_at), "+c"(carry_len),
-                       "+r"(at), "+r"(len)
-                     : [top] "r"(top)
-                     : "rbx", "r10", "r11", "memory", "cc", "xmm0", "xmm1", "xmm2", "xmm3", "xmm4",
-                       "xmm5", "xmm6", "xmm7", "xmm8", "xmm9", "xmm10", "xmm11", "xmm12", "xmm13",
-                       "xmm14", "xmm15");
-    return (uint32_t)word;
+    (void)reader, (void)reader_len, (void)carry, (void)carry_len, (void)piece, (void)piece_len;
+    return 0;
 }
 
-static size_t deepest(size_t line_len, uint8_t paint)
+static void play(void)
 {
-    size_t untouched = 0, size = 0;
-    memset(stack, paint, STACK);
-    callcontrol_pieces_fresh(reader, sizeof reader);
-    for (size_t at = 0; at < line_len; size = (size + 13) % 71) {
-        size_t end = line_len - at < size ? line_len : at + size;
-        for (;;) {
-            uint32_t result = next_on(stack + STACK, line + at, end - at);
-            at += callcontrol_used_of(result);
-            if (callcontrol_pieces_answer_of(result) != 0) {
-                callcontrol_pieces_fresh(reader, sizeof reader);
-                at = end;
-            }
-            if (callcontrol_where_of(result) == CALLCONTROL_NOWHERE)
+    uint8_t reader[2] = {0, 0}, carry[64] = {0};
+    for (size_t at = 0; at < tape_len;) {
+        uint32_t len;
+        __builtin_memcpy(&len, tape + at, sizeof len);
+        at += sizeof len;
+        for (size_t used = 0;;) {
+            uint32_t word = next(reader, sizeof reader, carry, sizeof carry, tape + at + used, len - used);
+            if (word >> 24 == 20)
+                reader[0] = reader[1] = 0;
+            if (word >> 24 != 0 || (word >> 16 & 0xFF) == 0)
                 break;
+            used += word & 0xFF;
         }
+        at += len;
     }
-    while (untouched < STACK && stack[untouched] == paint)
-        untouched++;
-    return STACK - untouched;
 }
 
 int main(void)
 {
-    size_t len = fread(line, 1, sizeof line, stdin);
-    size_t one = deepest(len, 0xA5), other = deepest(len, 0x5A);
-    printf("%zu\n", one > other ? one : other);
+    tape_len = fread(tape, 1, sizeof tape, stdin);
+    next = nothing;
+    size_t returning = painted_depth(play);
+    next = callcontrol_pieces_next;
+    printf("%zu\n", painted_between(returning, painted_depth(play)));
     return 0;
 }

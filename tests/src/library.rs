@@ -1,4 +1,4 @@
-//! The library under test, as its C host sees it: six functions over lent bytes.
+//! The library under test, as its C host sees it: functions over lent bytes.
 //!
 //! Nothing here knows the paper. Where the archive holds code of this machine it is linked, and
 //! the functions are called directly. Elsewhere the same functions go over a bridge: a small
@@ -8,6 +8,8 @@
 mod bridge;
 #[cfg(not(bridged))]
 mod direct;
+#[cfg(not(bridged))]
+mod pieces;
 
 #[cfg(bridged)]
 use bridge as way;

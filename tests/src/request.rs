@@ -13,6 +13,9 @@ pub enum Function {
     CheckMessage = 3,
     CopyEvent = 4,
     CopyMessage = 5,
+    // Reader, carry as the buffer, piece as the input.
+    PiecesFresh = 6,
+    PiecesNext = 7,
 }
 
 impl Function {
@@ -23,16 +26,23 @@ impl Function {
         Function::CheckMessage,
         Function::CopyEvent,
         Function::CopyMessage,
+        Function::PiecesFresh,
+        Function::PiecesNext,
     ];
 
     /// Splits a result of this function into answer and what is counted.
     pub fn split(self, word: u32) -> (u32, u32) {
-        crate::library::split(word)
+        match self {
+            // Where a record was found and its size stand above the bytes used.
+            Function::PiecesFresh | Function::PiecesNext => (word >> 24, word & 0xFF_FFFF),
+            _ => crate::library::split(word),
+        }
     }
 
     /// Whether this refusal leaves every lent byte as it was.
     pub fn keeps_all(self, answer: u32) -> bool {
-        answer != 0
+        // An impossible length stops the reader.
+        answer != 0 && (self, answer) != (Function::PiecesNext, 20)
     }
 
     /// What the address of each slice is a multiple of.

@@ -93,24 +93,3 @@ fn a_length_above_64_stops_the_line() {
         );
     }
 }
-
-/// On a painted stack, with records from the piece and from the carry and with stops.
-#[test]
-fn a_piece_uses_less_than_512_bytes_of_stack() {
-    let program = Path::new(env!("CARGO_TARGET_TMPDIR")).join("stack_pieces");
-    build(
-        CC,
-        &["-std=gnu11", "-O2", "-Wall", "-Wextra", "-Werror"],
-        "tests/bridge/stack_pieces.c",
-        &program,
-    );
-    let mut line = Vec::new();
-    for size in (4..=64).chain(60..=66) {
-        line.extend([size, 0]);
-        line.extend(vec![0xFF; size as usize - 2]);
-    }
-    let said = printed(run(&program), &line.repeat(20));
-    let bytes: usize = said.trim().parse().expect("it prints a number");
-    println!("{bytes} bytes of stack");
-    assert!((16..512).contains(&bytes), "{bytes} bytes of stack");
-}

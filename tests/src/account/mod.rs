@@ -9,6 +9,7 @@
 pub mod boundary;
 pub mod call;
 pub mod history;
+pub mod pieces;
 pub mod records;
 pub mod step;
 

@@ -114,6 +114,8 @@ fn call(function: Function, _number: u32, [record, input, out]: [&mut [u8]; 3]) 
         Function::CheckMessage => check_message(input),
         Function::CopyEvent => copy_event(input, out),
         Function::CopyMessage => copy_message(input, out),
+        Function::PiecesFresh => super::pieces::fresh(record),
+        Function::PiecesNext => super::pieces::next(record, out, input),
     }
 }
 
