@@ -18,6 +18,9 @@ use Rattle.demands.proofs.Cut as Cut
 use Rattle.demands.proofs.WrittenInRange as WrittenInRange
 use Rattle.demands.proofs.ReadsBack as ReadsBack
 use Rattle.demands.proofs.Identified as Identified
+use Rattle.demands.proofs.Timers as Timers
+use Rattle.demands.proofs.Bound as Bound
+use Rattle.demands.proofs.Examples as Examples
 
 -- ---- demand 1
 
@@ -77,6 +80,23 @@ written-in-range = WrittenInRange.written-in-range
 
 pub reads-back : claims.ReadsBack
 reads-back = ReadsBack.reads-back
+
+-- ---- how large a buffer to lend
+
+pub timers : claims.Timers
+timers = Timers.timers
+
+pub sent-before-t302 : claims.SentBeforeT302
+sent-before-t302 = Timers.sent-before-t302
+
+pub at-most-32 : claims.AtMost32
+at-most-32 = Bound.at-most-32
+
+pub writes-32 : claims.Writes32
+writes-32 = Examples.writes-32
+
+pub at-most-52 : claims.AtMost52
+at-most-52 = Bound.at-most-52
 
 -- ---- demand 3
 

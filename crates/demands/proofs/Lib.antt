@@ -1,6 +1,8 @@
 pub mod Answers
+pub mod Bound
 pub mod ByRow
 pub mod Cases
+pub mod Computed
 pub mod Cut
 pub mod Demands
 pub mod Drawn
@@ -15,6 +17,7 @@ pub mod Reading
 pub mod ReadsBack
 pub mod Situations
 pub mod Sound
+pub mod Timers
 pub mod Told
 pub mod Turns
 pub mod Witness

@@ -4,17 +4,10 @@ use mathlib.Core.Path.{_≡_, refl, sym, _∙_, ap}
 use mathlib.Core.List.{[]}
 use native.Mathlib.Omega.{arith}
 use lib.ListN.{replicate}
-use Rattle.records.specs.Letters.{within}
-use Rattle.records.specs.Bytes.{number, bytes}
-use Rattle.records.specs.Bodies.{valueAt, valuesAt, kindIn, bodyOf, bodyBytes, flatSize, flatBytes}
-use Rattle.records.specs.Tables.{readBody, readAs, read}
-use Rattle.records.specs.Messages.{messageBytes}
-use Rattle.callcontrol.specs.Call.{freshCall, allStopped, inRange, asFresh, timersAgree, placesAgree, sound}
-use Rattle.callcontrol.specs.Draft.{draft, go, storeAddress, storeMode, storeAsked, start, say}
-use Rattle.callcontrol.specs.Rows.{idle, inState, rowFor}
-use Rattle.callcontrol.specs.Writing.{byNumber, starting, messagesIn, bytesOf}
-use Rattle.callcontrol.specs.Step.{Outcome, otherCall, carried, decided, stepOf}
+use Rattle.callcontrol.specs.Call.{freshCall}
+use Rattle.callcontrol.specs.Step.{Outcome, stepOf}
 use Rattle.demands.specs.Examples.{setupRequest}
+use Rattle.demands.proofs.Computed.{computed}
 use Rattle.demands.specs.WrongSteps.{Step, Promise, refusesAll, singleAnswer, writesNothing, firstOnly, countsMore}
 
 -- the first input: a SETUP request in IDLE, with 64 bytes lent
@@ -36,7 +29,7 @@ record Facts : Type 0 where
   zero : second firstOnly .answer ≡ 0
 
 facts : Facts
-unfolding within number bytes valueAt valuesAt kindIn bodyOf bodyBytes flatSize flatBytes readBody readAs read messageBytes allStopped inRange asFresh timersAgree placesAgree sound draft go storeAddress storeMode storeAsked start say idle inState rowFor byNumber starting messagesIn bytesOf otherCall carried decided stepOf
+unfolding computed
 facts = record { answer = refl; count = refl; more = refl; short = refl; zero = refl }
 
 -- a step that meets the promise gives what the step gives

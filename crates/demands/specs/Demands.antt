@@ -1,5 +1,5 @@
 -- What the client bought: the three demands over every run, as types. proofs/Demands.antt has a proof of each.
-use Prim.Native.Nat.{ℕ, _+_}
+use Prim.Native.Nat.{ℕ, _+_, _≤_}
 use mathlib.Core.Path.{_≡_}
 use mathlib.Core.Bool.{Bool, true, false, cond, not, _&&_, _||_}
 use mathlib.Core.List.{List, [], _∷_, _++_}
@@ -19,11 +19,12 @@ use Rattle.records.specs.Messages.{messages}
 use Rattle.callcontrol.specs.declared.call.State.{State}
 use Rattle.callcontrol.specs.declared.call.Path.{Path}
 use Rattle.callcontrol.specs.declared.call.Call.{Call}
-use Rattle.callcontrol.specs.Call.{freshCall, sound, runs, isIdle, T310}
+use Rattle.callcontrol.specs.Call.{freshCall, sound, pathNumber, runs, isIdle, T301, T302, T310}
 use Rattle.callcontrol.specs.Rows.{rowFor}
 use Rattle.callcontrol.specs.Writing.{messagesIn, bytesOf}
 use Rattle.callcontrol.specs.Step.{refusal, stepOf, otherCall}
 use Rattle.demands.specs.Runs.{Turn, outcome, next, run, takenBy, takenIn, writtenBy, writtenIn, every?, told, ends}
+use Rattle.demands.specs.Examples.{turn, setupRequest, dConnect}
 use Rattle.demands.specs.History.{planeByHistory, idByHistory}
 
 -- Demand 1: every turn gets an answer; the lowest number that applies; a refusal writes no byte and gives the record back
@@ -141,6 +142,37 @@ Reads bytes (m ∷ ms) = (read messages (take (number 2 bytes 0) bytes) ≡ take
 -- what a step from a sound record writes reads back: the bytes that it counts, of the buffer that it leaves, are the messages of its row
 abbrev pub ReadsBack : Type 0
 ReadsBack = (c : Call) (t : Turn) → Kept c → Reads (take (outcome c t .count) (outcome c t .buffer)) (writtenBy c t)
+
+-- How large a buffer to lend
+
+-- the timers that run in a reached record: 301 302 303 306 308 310 311. IDLE none; MO-CALL-SETUP one of T302 and T303; MT-CALL-SETUP at most T301;
+-- CALL-ACTIVE T310, beside it T306 exactly while restoring and T311 exactly in plane 1; WAIT T310; CALL-DISCONNECT T308
+unfoldable pub timersIn : State → Call → List Bool
+timersIn State.Idle c = false ∷ false ∷ false ∷ false ∷ false ∷ false ∷ false ∷ []
+timersIn State.MoCallSetup c = false ∷ runs c T302 ∷ not (runs c T302) ∷ false ∷ false ∷ false ∷ false ∷ []
+timersIn State.MtCallSetup c = runs c T301 ∷ false ∷ false ∷ false ∷ false ∷ false ∷ false ∷ []
+timersIn State.CallActive c = false ∷ false ∷ false ∷ eqb (pathNumber (c .path)) 2 ∷ false ∷ true ∷ eqb (c .plane) 1 ∷ []
+timersIn State.Wait c = false ∷ false ∷ false ∷ false ∷ false ∷ true ∷ false ∷ []
+timersIn State.CallDisconnect c = false ∷ false ∷ false ∷ false ∷ true ∷ false ∷ false ∷ []
+
+abbrev pub Timers : Type 0
+Timers = (ts : List Turn) → run freshCall ts .timers ≡ timersIn (run freshCall ts .state) (run freshCall ts)
+
+-- and T302 only once U-SETUP is known to be sent
+abbrev pub SentBeforeT302 : Type 0
+SentBeforeT302 = (ts : List Turn) → runs (run freshCall ts) T302 ≡ true → run freshCall ts .sent ≡ 0 → ⊥
+
+-- no turn of a run counts more than 32 bytes, whatever is handed in and lent
+abbrev pub AtMost32 : Type 0
+AtMost32 = (ts : List Turn) (t : Turn) → outcome (run freshCall ts) t .count ≤ 32
+
+-- and one counts as many: D-CONNECT with grant 0 after a SETUP request, where 32 are lent
+abbrev pub Writes32 : Type 0
+Writes32 = outcome (run freshCall (turn setupRequest 64 ∷ [])) (turn dConnect 32) .count ≡ 32
+
+-- a step from any sound record, in reach or not, counts at most 52
+abbrev pub AtMost52 : Type 0
+AtMost52 = (c : Call) (t : Turn) → Kept c → outcome c t .count ≤ 52
 
 -- Demand 3, told: what the lower layers were last told is what the history rule reads from the taken events alone, and is the plane of the record
 
