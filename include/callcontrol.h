@@ -26,6 +26,7 @@ extern "C" {
 #define CALLCONTROL_HEAD_SIZE 4u            /* length u16 and kind u16 before the body */
 #define CALLCONTROL_EVENT_MAX 11u           /* bytes of the longest event */
 #define CALLCONTROL_MESSAGE_MAX 11u         /* bytes of the longest message */
+#define CALLCONTROL_RUN_MAX 32u             /* the most one step writes, of a call that began fresh and was only stepped */
 #define CALLCONTROL_STEP_MAX 52u            /* the most one step writes, from any sound record */
 #define CALLCONTROL_IDENTIFIER_MAX 16383u   /* i */
 #define CALLCONTROL_ADDRESS_MAX 16777215u   /* a; 0 is unknown */
@@ -210,7 +211,8 @@ uint32_t callcontrol_fresh(uint8_t *record, size_t record_len);
 /*
  * Takes one event: rewrites the record, writes the messages it orders to the front of out, one
  * after another, and counts their bytes; later bytes of out stay as they are. A refusal (answers
- * 1 to 7) leaves record and out byte for byte. CALLCONTROL_STEP_MAX bytes are always enough.
+ * 1 to 7) leaves record and out byte for byte. CALLCONTROL_RUN_MAX bytes are enough for a record that
+ * callcontrol_fresh wrote and only this function changed since, CALLCONTROL_STEP_MAX for any sound one.
  */
 uint32_t callcontrol_step(uint8_t *record, size_t record_len,
                           const uint8_t *event, size_t event_len,

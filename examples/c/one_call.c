@@ -139,7 +139,7 @@ static size_t make_event(uint8_t *event, unsigned int number, const unsigned lon
 static void play(uint8_t *call, unsigned int number, const unsigned long *values)
 {
     uint8_t event[CALLCONTROL_EVENT_MAX];
-    uint8_t out[CALLCONTROL_STEP_MAX];
+    uint8_t out[CALLCONTROL_RUN_MAX];
     size_t event_len = make_event(event, number, values);
 
     uint32_t result = callcontrol_step(call, CALLCONTROL_RECORD_SIZE, event, event_len,

@@ -20,6 +20,8 @@ fn every_reachable_record_and_event_agree() {
     let first = Node { record: Call::FRESH.pack(), history: History::EMPTY };
     let mut steps = 0u64;
     let mut answers = [0u64; 8];
+    let mut longest = 0;
+    let mut longest_steps = HashSet::new();
     let mut queue = Queue::new();
 
     let nodes = explore(first, &events, |node, event, bytes| {
@@ -30,6 +32,14 @@ fn every_reachable_record_and_event_agree() {
             return None;
         }
         let (record, count, written) = (whole.next(), whole.count, whole.written().to_vec());
+
+        if count > longest {
+            longest = count;
+            longest_steps.clear();
+        }
+        if count == longest {
+            longest_steps.insert((node.record[0], bytes[2..4].to_vec(), bytes.get(6..8).map(<[u8]>::to_vec)));
+        }
 
         // Room for exactly what is written is enough, one byte less is not.
         let exact = queue.step(&node.record, bytes, count, !(steps as u8));
@@ -65,6 +75,10 @@ fn every_reachable_record_and_event_agree() {
         assert!(answers[answer] > 0, "answer {answer} was never seen");
     }
     assert!(records.len() > 1000, "the alphabet reaches too little to show anything");
+    // STOP of T302 or T303, START of T310 and T311, CONFIGURE and SETUP confirm: D-CONNECT (0203) in
+    // MO-CALL-SETUP (1) with grant 0 in simplex, and no other step, writes 32 bytes.
+    assert_eq!(longest, 6 + 7 + 7 + 5 + 7);
+    assert_eq!(longest_steps, HashSet::from([(1, vec![0x03, 0x02], Some(vec![0, 0]))]));
 }
 
 fn last_configure(written: &[u8]) -> Option<Plane> {
