@@ -38,7 +38,7 @@ static void print_line(unsigned int answer, const uint8_t *call, size_t bytes)
 /* One record: an event for the call. A real host would carry out the messages in out here. */
 static void take(uint8_t *call, const uint8_t *record, size_t len)
 {
-    uint8_t out[64];
+    uint8_t out[CALLCONTROL_RUN_MAX];
     uint32_t result = callcontrol_step(call, CALLCONTROL_RECORD_SIZE, record, len, out, sizeof out);
     print_line(callcontrol_answer_of(result), call, callcontrol_count_of(result));
 }
