@@ -125,6 +125,14 @@ fn keep(carried: usize, carry: &mut [u8], piece: &[u8]) -> Found
     }
 }
 
+// How many bytes of a record are not carried yet.
+fn missing(carried: usize, size: usize) -> usize
+    requires { ⌜ carried ≤ size ⌝ }
+    ensures { λ r. ⌜ r ≡ size - carried ⌝ }
+{
+    size - carried
+}
+
 // A record that the piece holds entire stays there; one that was begun is completed in the carry.
 fn hand_on(carried: usize, carry: &mut [u8], piece: &[u8], size: usize) -> Found
     requires { ⌜ (carried < size) × (size ≤ carried + length (now piece)) × (size ≤ length (now carry)) ⌝ }
@@ -139,13 +147,13 @@ fn hand_on(carried: usize, carry: &mut [u8], piece: &[u8], size: usize) -> Found
             reader: Reader::fresh(),
         };
     }
-    let missing = size - carried;
-    copy(carry, carried, piece, missing);
+    let rest = missing(carried, size);
+    copy(carry, carried, piece, rest);
     Found {
         answer: Answer::Taken,
         place: Place::Carry,
         size,
-        used: missing,
+        used: rest,
         reader: Reader::fresh(),
     }
 }

@@ -13,11 +13,12 @@ hand-on-spec =
     (tie.spec
     (λ c κs. search needs)
     (λ c. rw (eq-eqb (c .before .before .before .before .args .carried) 0 (omega arith), c .fresh .ensures))
-    (λ c. search needs)
+    (λ c κs. search needs)
     (λ c κs. search needs)
     (λ c κs. search needs)
     (λ c. search needs)
     (λ c.
     let k = c .before .before .before in
-    let carried = k .before .before .before .before .before .args .carried in
-    rw (ne-eqb carried 0 (λ none. omega arith), k .copy .ensures, c .fresh2 .ensures)))
+    let m = k .before .before in
+    let carried = m .before .before .before .before .args .carried in
+    rw (ne-eqb carried 0 (λ none. omega arith), k .copy .ensures, m .missing .ensures, c .fresh2 .ensures)))
