@@ -422,7 +422,9 @@ fn refusals_come_in_their_order() {
                 (true, false) => 0,
             };
             expect(&[0, 0], carry_len, piece, open);
-            expect(&[0, 1], carry_len, piece, if room { 21 } else { 22 });
+            for carried in 0..64 {
+                expect(&[carried, 1], carry_len, piece, if room { 21 } else { 22 });
+            }
             // Another length, more carried than a reader carries, and a flag that is none.
             for reader in [&[][..], &[0], &[0, 0, 0], &[0, 1, 0], &[0; 64]] {
                 expect(reader, carry_len, piece, 1);
