@@ -31,6 +31,7 @@ extern "C" {
 #define CALLCONTROL_IDENTIFIER_MAX 16383u   /* i */
 #define CALLCONTROL_ADDRESS_MAX 16777215u   /* a; 0 is unknown */
 #define CALLCONTROL_T310_CODE_MAX 15u       /* o */
+#define CALLCONTROL_T310_CODE_NO_LIMIT 0u   /* o: no START is written; a running T310 is stopped */
 #define CALLCONTROL_T310_CODE_ABSENT 16u    /* o in D-INFO and D-CALL RESTORE: none given */
 #define CALLCONTROL_TX_INDICATION_MAX 8u    /* x */
 #define CALLCONTROL_READER_SIZE 2u          /* bytes of a reader of pieces */
@@ -185,7 +186,7 @@ enum callcontrol_message_kind {
     CALLCONTROL_U_CALL_RESTORE = 0x0508, /* i a q */
 
     CALLCONTROL_STOP = 0x0601,      /* n */
-    CALLCONTROL_START = 0x0602,     /* n o: o is 0 but for T310 */
+    CALLCONTROL_START = 0x0602,     /* n o: o is 0 but for T310, whose 0 no step writes */
     CALLCONTROL_CONFIGURE = 0x0603, /* p */
     CALLCONTROL_CANCEL = 0x0604,
 

@@ -50,6 +50,8 @@ histories! {
     two_breaks
     colliding_release
     modify
+    no_limit_outgoing
+    no_limit_restored
     expiry_t301
     expiry_t302
     expiry_t303

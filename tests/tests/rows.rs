@@ -60,6 +60,13 @@ fn active(plane: Plane) -> Call {
     }
 }
 
+/// With code 0, no limit: T310 does not run.
+fn unlimited(call: Call) -> Call {
+    let mut timers = call.timers;
+    timers[T310 as usize] = false;
+    Call { t310_code: 0, timers, ..call }
+}
+
 fn duplex(call: Call) -> Call {
     Call { mode: Duplex, ..call }
 }
@@ -214,8 +221,8 @@ fn mo_call_setup() {
     row(
         asked(mo()),
         connect(Queued, Simplex, 0),
-        asked(Call { t310_code: 0, ..active(Plane::Off) }),
-        &[stop(T303), t310(0), OFF, confirm(Queued)],
+        asked(unlimited(active(Plane::Off))),
+        &[stop(T303), OFF, confirm(Queued)],
     );
     row(
         asked(mo()),
@@ -291,8 +298,8 @@ fn mt_call_setup() {
     row(
         duplex(answered),
         acknowledge(Granted, 0),
-        not_sent(duplex(Call { t310_code: 0, ..active(Plane::TransmitAndReceive) })),
-        &[stop(T301), t310(0), Configure { p: Plane::TransmitAndReceive }, Complete { g: Granted }],
+        not_sent(duplex(unlimited(active(Plane::TransmitAndReceive)))),
+        &[stop(T301), Configure { p: Plane::TransmitAndReceive }, Complete { g: Granted }],
     );
     row(
         answered,
@@ -369,6 +376,54 @@ fn call_active_path_up_by_the_user() {
     no_row(active(Plane::Off), Resume);
 }
 
+/// Code 0 is no limit: where a row would start T310 with it, T310 stops if it runs, and no START is
+/// written. A held 0 counts too.
+#[test]
+fn t310_without_a_limit() {
+    let info = |r, o| DInfo { i: I, r, o, d: Simplex };
+    for &plane in &[Plane::Receive, Plane::Off] {
+        let again = [Configure { p: plane }, ModifyIndication { d: Simplex }];
+        let stopping = [&[stop(T310)], &again[..]].concat();
+        let starting = [&[Start { n: T310, o: 9 }], &again[..]].concat();
+        let (limited, unlimited) = (active(plane), unlimited(active(plane)));
+        row(limited, info(true, Some(0)), unlimited, &stopping);
+        row(limited, info(false, Some(0)), limited, &again);
+        row(unlimited, info(true, Some(0)), unlimited, &again);
+        row(unlimited, info(true, None), unlimited, &again);
+        row(unlimited, info(false, Some(9)), unlimited, &again);
+        row(unlimited, info(true, Some(9)), Call { t310_code: 9, ..limited }, &starting);
+        // Sound and out of reach: T310 runs with a held 0.
+        row(Call { t310_code: 0, ..limited }, info(true, None), unlimited, &stopping);
+    }
+    let restore = |r, o| DCallRestore { i: I, g: NotGranted, r, o };
+    let (limited, unlimited_off) = (restoring(), unlimited(active(Plane::Off)));
+    let stops = [stop(T306), stop(T310), x(1)];
+    row(limited, restore(true, Some(0)), unlimited_off, &stops);
+    row(unlimited(limited), restore(true, None), unlimited_off, &[stop(T306), x(1)]);
+    row(unlimited(limited), restore(false, Some(9)), unlimited_off, &[stop(T306), x(1)]);
+    row(
+        unlimited(limited),
+        restore(true, Some(9)),
+        Call { t310_code: 9, ..active(Plane::Off) },
+        &[stop(T306), Start { n: T310, o: 9 }, x(1)],
+    );
+    // Sound and out of reach: T310 runs before the call is connected.
+    row(
+        with(mo(), &[T303, T310]),
+        DConnect { i: I, g: NotGranted, d: Simplex, o: 0 },
+        unlimited_off,
+        &[stop(T303), stop(T310), OFF, SetupConfirm { i: I, g: NotGranted }],
+    );
+    row(
+        with(mt(), &[T301, T310]),
+        DConnectAcknowledge { i: I, g: NotGranted, o: 0 },
+        Call { sent: false, ..unlimited_off },
+        &[stop(T301), stop(T310), OFF, Complete { g: NotGranted }],
+    );
+    // What does not run does not expire.
+    no_row(unlimited_off, Expiry { n: T310 });
+}
+
 #[test]
 fn d_info() {
     let info = |r, o, d| DInfo { i: I, r, o, d };
@@ -395,8 +450,8 @@ fn d_info() {
     row(
         active(Plane::Transmit),
         info(true, Some(0), Duplex),
-        duplex(Call { t310_code: 0, ..active(Plane::Off) }),
-        &[stop(T311), Start { n: T310, o: 0 }, OFF, ModifyIndication { d: Duplex }],
+        duplex(unlimited(active(Plane::Off))),
+        &[stop(T310), stop(T311), OFF, ModifyIndication { d: Duplex }],
     );
     row(
         duplex(active(Plane::TransmitAndReceive)),
@@ -546,8 +601,8 @@ fn d_call_restore() {
     row(
         asked(restoring()),
         restore(Queued, true, Some(0)),
-        asked(Call { t310_code: 0, ..active(Plane::Off) }),
-        &[stop(T306), Start { n: T310, o: 0 }, x(2)],
+        asked(unlimited(active(Plane::Off))),
+        &[stop(T306), stop(T310), x(2)],
     );
     row(
         asked(restoring()),

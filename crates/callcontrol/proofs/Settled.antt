@@ -1,7 +1,7 @@
 -- Each row of the code, a sum of orders, stands for the row of the definitions.
 use Prim.Native.Nat.{ℕ, zero, suc, _+_, _<_}
 use mathlib.Core.Path.{_≡_, refl, ap, _∙_}
-use mathlib.Core.Bool.{Bool, true, false, cond, _||_}
+use mathlib.Core.Bool.{Bool, true, false, cond, not, _||_}
 use mathlib.Core.List.{List, [], _∷_}
 use borrow.Author.Tests.{eq-eqb, ne-eqb}
 use native.Mathlib.Omega.{arith}
@@ -16,11 +16,11 @@ use Rattle.callcontrol.specs.Draft.{Draft}
 use Rattle.callcontrol.specs.Call.{runs, T301, T302, T303, T306, T308, T310, T311}
 use Rattle.callcontrol.specs.Draft.{_▷_, draft, noRow, go, onPath, storeId, storeMode, storeAsked, storeSent, storeCode, keep, stop, start, expired, release, samePlane, plane, off, say, tell, grant, grantOrOff, restart, cancel}
 use Rattle.callcontrol.specs.Rows.{releasing, released, disconnected, idle, moCallSetup, mtCallSetup, informed, cut, activeUp, asks, activeBroken, activeRestoring, wait, confirmed}
-use Rattle.callcontrol.specs.Settle.{STAY, MO-CALL-SETUP, MT-CALL-SETUP, CALL-ACTIVE, WAIT, CALL-DISCONNECT, OVER, UP, BROKEN, RESTORING, SENT, PLANE-1, PLANE-2, PLANE-3, OFF, SAME-PLANE, KEPT-PLANE, U-SETUP, U-CONNECT, U-RELEASE, U-INFO, U-TX-DEMAND, U-TX-CEASED, U-CALL-RESTORE, SETUP-INDICATION, SETUP-CONFIRM, PROCEED, ALERT, COMPLETE, RELEASE-INDICATION, RELEASE-CONFIRM, TX-INDICATION, MODIFY-INDICATION, CANCEL, STOP-301, STOP-302, STOP-303, STOP-306, START-301, START-302, START-303, START-306, START-310, EXPIRED-301, EXPIRED-302, EXPIRED-303, EXPIRED-306, EXPIRED-308, EXPIRED-310, EXPIRED-311, ENDED, CONFIRMED, RELEASE, has, timing, expireTimer, stopTimer, startTimer, stopIf, startIf, expiredBy, orderedBy, planeTimer, timingBy, configureBy, planeBy, stateBy, keptBy, pathBy, sentBy, nextBy, pduBy, userBy, settled, draftOf, noneRow, rowOf, rowAsking, rowNaming, planeGranted, planeOrOff, askedAfter, restarting, codeAfter}
+use Rattle.callcontrol.specs.Settle.{STAY, MO-CALL-SETUP, MT-CALL-SETUP, CALL-ACTIVE, WAIT, CALL-DISCONNECT, OVER, UP, BROKEN, RESTORING, SENT, PLANE-1, PLANE-2, PLANE-3, OFF, SAME-PLANE, KEPT-PLANE, U-SETUP, U-CONNECT, U-RELEASE, U-INFO, U-TX-DEMAND, U-TX-CEASED, U-CALL-RESTORE, SETUP-INDICATION, SETUP-CONFIRM, PROCEED, ALERT, COMPLETE, RELEASE-INDICATION, RELEASE-CONFIRM, TX-INDICATION, MODIFY-INDICATION, CANCEL, STOP-301, STOP-302, STOP-303, STOP-306, START-301, START-302, START-303, START-306, START-310, EXPIRED-301, EXPIRED-302, EXPIRED-303, EXPIRED-306, EXPIRED-308, EXPIRED-310, EXPIRED-311, ENDED, CONFIRMED, RELEASE, has, timing, expireTimer, stopTimer, startTimer, stopIf, startIf, limitTimer, limitIf, expiredBy, orderedBy, planeTimer, timingBy, configureBy, planeBy, stateBy, keptBy, pathBy, sentBy, nextBy, pduBy, userBy, settled, draftOf, noneRow, rowOf, rowAsking, rowNaming, planeGranted, planeOrOff, askedAfter, restarting, codeAfter}
 use Rattle.callcontrol.proofs.Verbs.{verbs}
 
 unfoldable pub numbers : Unit {0}
-unfolding has timing expireTimer stopTimer startTimer stopIf startIf expiredBy orderedBy planeTimer timingBy configureBy planeBy stateBy keptBy pathBy sentBy nextBy pduBy userBy settled draftOf
+unfolding has timing expireTimer stopTimer startTimer stopIf startIf limitTimer limitIf expiredBy orderedBy planeTimer timingBy configureBy planeBy stateBy keptBy pathBy sentBy nextBy pduBy userBy settled draftOf
 numbers = tt
 
 pub none-is : (c : Call) → draftOf c noneRow ≡ noRow c
@@ -281,29 +281,29 @@ pub modified-is : (c : Call) (d : ℕ) → draftOf c (rowOf c (STAY + U-INFO) d)
 unfolding verbs numbers activeUp
 modified-is c d = refl
 
--- T310 anew: with the received code, with the held one, or not
+-- T310 anew: with the received code, with the held one, or left alone
 data Restarted : Type 0 where
-  anew held not : Restarted
+  anew held left : Restarted
 
 abbrev restartedBy : Bool → Bool → Restarted
 restartedBy true true = held
 restartedBy true false = anew
-restartedBy false absent = not
+restartedBy false absent = left
 
 abbrev startOf : Restarted → ℕ
 startOf anew = START-310
 startOf held = START-310
-startOf not = 0
+startOf left = 0
 
 abbrev codeOf : Restarted → ℕ → ℕ → ℕ
 codeOf anew o h = o
 codeOf held o h = h
-codeOf not o h = h
+codeOf left o h = h
 
 abbrev restartedFor : Restarted → ℕ → Draft → Draft
 restartedFor anew o d = d ▷ storeCode o ▷ start T310
 restartedFor held o d = d ▷ storeCode (d .call .code) ▷ start T310
-restartedFor not o d = d
+restartedFor left o d = d
 
 restarting-is : (r o : ℕ) (b absent : Bool) → eqb r 1 ≡ b → restarting r ≡ startOf (restartedBy b absent)
 unfolding restarting
@@ -327,13 +327,13 @@ informed-same : (c : Call) (o : ℕ) (w : Restarted) → draftOf c (record { ord
 unfolding verbs numbers
 informed-same c o anew = refl
 informed-same c o held = refl
-informed-same c o not = refl
+informed-same c o left = refl
 
 informed-other : (c : Call) (o d : ℕ) (w : Restarted) → draftOf c (record { orders = STAY + OFF + MODIFY-INDICATION + startOf w; id = c .id; address = c .address; mode = d; asked = c .asked; code = codeOf w o (c .code); value = d }) ≡ restartedFor w o (draft c) ▷ storeMode d ▷ off ▷ tell (Message.ModifyIndication d)
 unfolding verbs numbers
 informed-other c o d anew = refl
 informed-other c o d held = refl
-informed-other c o d not = refl
+informed-other c o d left = refl
 
 pub informed-same-is : (c : Call) (r o d : ℕ) → d ≡ c .mode → draftOf c (record { orders = STAY + SAME-PLANE + MODIFY-INDICATION + restarting r; id = c .id; address = c .address; mode = d; asked = c .asked; code = codeAfter r o (c .code); value = d }) ≡ informed r o d c
 unfolding informed
@@ -400,46 +400,46 @@ resumed-is c = refl
 
 -- CALL-ACTIVE, restoring. The definition starts T310 after the plane, and the code before it
 
-swapped : (ts : List Bool) (x : Bool) → set (set ts T310 true) T311 x ≡ set (set ts T311 x) T310 true
-swapped [] x = refl
-swapped (a ∷ []) x = refl
-swapped (a ∷ b ∷ []) x = refl
-swapped (a ∷ b ∷ c ∷ []) x = refl
-swapped (a ∷ b ∷ c ∷ d ∷ []) x = refl
-swapped (a ∷ b ∷ c ∷ d ∷ e ∷ []) x = refl
-swapped (a ∷ b ∷ c ∷ d ∷ e ∷ f ∷ []) x = refl
-swapped (a ∷ b ∷ c ∷ d ∷ e ∷ f ∷ g ∷ ts) x = refl
+swapped : (ts : List Bool) (x y : Bool) → set (set ts T310 y) T311 x ≡ set (set ts T311 x) T310 y
+swapped [] x y = refl
+swapped (a ∷ []) x y = refl
+swapped (a ∷ b ∷ []) x y = refl
+swapped (a ∷ b ∷ c ∷ []) x y = refl
+swapped (a ∷ b ∷ c ∷ d ∷ []) x y = refl
+swapped (a ∷ b ∷ c ∷ d ∷ e ∷ []) x y = refl
+swapped (a ∷ b ∷ c ∷ d ∷ e ∷ f ∷ []) x y = refl
+swapped (a ∷ b ∷ c ∷ d ∷ e ∷ f ∷ g ∷ ts) x y = refl
 
-apart : (ts : List Bool) → getD (set ts T310 true) T311 false ≡ getD ts T311 false
-apart [] = refl
-apart (a ∷ []) = refl
-apart (a ∷ b ∷ []) = refl
-apart (a ∷ b ∷ c ∷ []) = refl
-apart (a ∷ b ∷ c ∷ d ∷ []) = refl
-apart (a ∷ b ∷ c ∷ d ∷ e ∷ []) = refl
-apart (a ∷ b ∷ c ∷ d ∷ e ∷ f ∷ []) = refl
-apart (a ∷ b ∷ c ∷ d ∷ e ∷ f ∷ g ∷ ts) = refl
+apart : (ts : List Bool) (x y : Bool) → (getD (set ts T310 y) T311 false ≡ getD ts T311 false) × (getD (set ts T311 x) T310 false ≡ getD ts T310 false)
+apart [] x y = (refl, refl)
+apart (a ∷ []) x y = (refl, refl)
+apart (a ∷ b ∷ []) x y = (refl, refl)
+apart (a ∷ b ∷ c ∷ []) x y = (refl, refl)
+apart (a ∷ b ∷ c ∷ d ∷ []) x y = (refl, refl)
+apart (a ∷ b ∷ c ∷ d ∷ e ∷ []) x y = (refl, refl)
+apart (a ∷ b ∷ c ∷ d ∷ e ∷ f ∷ []) x y = (refl, refl)
+apart (a ∷ b ∷ c ∷ d ∷ e ∷ f ∷ g ∷ ts) x y = (refl, refl)
 
 restored-by : (c : Call) (g o : ℕ) (w : Granted) (v : Restarted) → draftOf c (record { orders = STAY + STOP-306 + UP + TX-INDICATION + planeOf w + startOf v; id = c .id; address = c .address; mode = c .mode; asked = askedOf w (c .asked); code = codeOf v o (c .code); value = g }) ≡ restartedFor v o (given w (restored c)) ▷ tell (Message.TxIndication g)
 unfolding verbs numbers
-restored-by c g o both anew = rw (swapped (set (c .timers) T306 false) false, apart (set (c .timers) T306 false)) refl
-restored-by c g o both held = rw (swapped (set (c .timers) T306 false) false, apart (set (c .timers) T306 false)) refl
-restored-by c g o both not = refl
-restored-by c g o one anew = rw (swapped (set (c .timers) T306 false) true) refl
-restored-by c g o one held = rw (swapped (set (c .timers) T306 false) true) refl
-restored-by c g o one not = refl
+restored-by c g o both anew = rw (swapped (set (c .timers) T306 false) false (not (eqb o 0)), apart (set (c .timers) T306 false) false (not (eqb o 0)) .0, apart (set (c .timers) T306 false) false (not (eqb o 0)) .1) refl
+restored-by c g o both held = rw (swapped (set (c .timers) T306 false) false (not (eqb (c .code) 0)), apart (set (c .timers) T306 false) false (not (eqb (c .code) 0)) .0, apart (set (c .timers) T306 false) false (not (eqb (c .code) 0)) .1) refl
+restored-by c g o both left = refl
+restored-by c g o one anew = rw (swapped (set (c .timers) T306 false) true (not (eqb o 0)), apart (set (c .timers) T306 false) true (not (eqb o 0)) .1) refl
+restored-by c g o one held = rw (swapped (set (c .timers) T306 false) true (not (eqb (c .code) 0)), apart (set (c .timers) T306 false) true (not (eqb (c .code) 0)) .1) refl
+restored-by c g o one left = refl
 restored-by c g o refused anew = refl
 restored-by c g o refused held = refl
-restored-by c g o refused not = refl
+restored-by c g o refused left = refl
 restored-by c g o queued anew = refl
 restored-by c g o queued held = refl
-restored-by c g o queued not = refl
-restored-by c g o another anew = rw (swapped (set (c .timers) T306 false) false, apart (set (c .timers) T306 false)) refl
-restored-by c g o another held = rw (swapped (set (c .timers) T306 false) false, apart (set (c .timers) T306 false)) refl
-restored-by c g o another not = refl
+restored-by c g o queued left = refl
+restored-by c g o another anew = rw (swapped (set (c .timers) T306 false) false (not (eqb o 0)), apart (set (c .timers) T306 false) false (not (eqb o 0)) .0, apart (set (c .timers) T306 false) false (not (eqb o 0)) .1) refl
+restored-by c g o another held = rw (swapped (set (c .timers) T306 false) false (not (eqb (c .code) 0)), apart (set (c .timers) T306 false) false (not (eqb (c .code) 0)) .0, apart (set (c .timers) T306 false) false (not (eqb (c .code) 0)) .1) refl
+restored-by c g o another left = refl
 restored-by c g o neither anew = refl
 restored-by c g o neither held = refl
-restored-by c g o neither not = refl
+restored-by c g o neither left = refl
 
 pub restored-is : (c : Call) (g r o : ℕ) → draftOf c (record { orders = STAY + STOP-306 + UP + TX-INDICATION + planeGranted g (c .mode) + restarting r; id = c .id; address = c .address; mode = c .mode; asked = askedAfter g (c .asked); code = codeAfter r o (c .code); value = g }) ≡ restored c ▷ grant g ▷ restart r o ▷ tell (Message.TxIndication g)
 restored-is c g r o =

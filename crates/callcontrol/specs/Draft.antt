@@ -1,6 +1,6 @@
 -- What a row orders: the next call, the timers to stop and to start, and the messages. Each verb of the rows is one definition.
 use Prim.Native.Nat.{ℕ}
-use mathlib.Core.Bool.{Bool, true, false, cond, _||_}
+use mathlib.Core.Bool.{Bool, true, false, cond, not, _&&_, _||_}
 use mathlib.Core.List.{List}
 use lib.Dec.{eqb}
 use lib.ListN.{getD, set}
@@ -126,13 +126,18 @@ stop k d =
 unfoldable pub stopAll : Draft → Draft
 stopAll d = d ▷ stop T301 ▷ stop T302 ▷ stop T303 ▷ stop T306 ▷ stop T308 ▷ stop T310 ▷ stop T311
 
--- starting a running timer writes START only, also in a row that says stop all
+-- T310's code 0 is no limit; the other timers have one always
+abbrev pub limited : ℕ → Draft → Bool
+limited k d = not (eqb k T310 && eqb (d .call .code) 0)
+
+-- starting a running timer writes START only, also in a row that says stop all; T310 without a limit stops instead, and STOP is written only if
+-- it runs
 unfoldable pub start : ℕ → Draft → Draft
 start k d =
     record {
-      call = timersOf d (set (d .call .timers) k true);
-      stops = set (d .stops) k false;
-      starts = set (d .starts) k true;
+      call = timersOf d (set (d .call .timers) k (limited k d));
+      stops = set (d .stops) k (not (limited k d) && (runs (d .call) k || getD (d .stops) k false));
+      starts = set (d .starts) k (limited k d);
       cancel = d .cancel;
       pdu = d .pdu;
       configure = d .configure;
@@ -144,7 +149,7 @@ start k d =
 unfoldable pub expired : ℕ → Draft → Draft
 expired k d = with d (timersOf d (set (d .call .timers) k false))
 
--- if r is 1, T310 starts with o, or with the held code if o is 16, and the code is stored
+-- if r is 1, o, or the held code if o is 16, is stored, and T310 starts with it
 unfoldable pub restart : ℕ → ℕ → Draft → Draft
 restart r o d = cond (eqb r 1) (d ▷ storeCode (cond (eqb o 16) (d .call .code) o) ▷ start T310) d
 

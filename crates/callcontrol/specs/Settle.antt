@@ -4,7 +4,7 @@
 -- differed would be refused where its row is held to that of Rows (proofs/Settled). So would a verb on timers that differed from the one
 -- of Draft: here they work on flags alone, as the code does before there is a draft.
 use Prim.Native.Nat.{ℕ, _+_, _/_, _%_}
-use mathlib.Core.Bool.{Bool, true, false, cond, _||_}
+use mathlib.Core.Bool.{Bool, true, false, cond, not, _&&_, _||_}
 use mathlib.Core.List.{List}
 use lib.Dec.{eqb}
 use lib.ListN.{getD, set}
@@ -233,6 +233,18 @@ stopIf b k t = cond b (stopTimer k t) t
 unfoldable pub startIf : Bool → ℕ → Timing → Timing
 startIf b k t = cond b (startTimer k t) t
 
+-- T310 with the code that is stored; 0 is no limit
+unfoldable pub limitTimer : ℕ → Timing → Timing
+limitTimer o t =
+    record {
+      running = set (t .running) T310 (not (eqb o 0));
+      stops = set (t .stops) T310 (not (not (eqb o 0)) && (getD (t .running) T310 false || getD (t .stops) T310 false));
+      starts = set (t .starts) T310 (not (eqb o 0));
+    }
+
+unfoldable pub limitIf : Bool → ℕ → Timing → Timing
+limitIf b o t = cond b (limitTimer o t) t
+
 -- the timer that expired: 1 to 7 by its place, 0 for none
 unfoldable pub expiredBy : ℕ → Timing → Timing
 expiredBy n t =
@@ -243,8 +255,8 @@ expiredBy n t =
     (cond (eqb n 5) (expireTimer T308 t) (cond (eqb n 6) (expireTimer T310 t) (cond (eqb n 7) (expireTimer T311 t) t))))))
 
 -- the stops, then the starts; T311 is started with plane 1
-unfoldable pub orderedBy : ℕ → Timing → Timing
-orderedBy n t =
+unfoldable pub orderedBy : ℕ → ℕ → Timing → Timing
+orderedBy n o t =
     cond (eqb (n / STOP-301 % 0x10000) 0) t
     (t
     ▷ stopIf (has n STOP-301) T301
@@ -259,15 +271,15 @@ orderedBy n t =
     ▷ startIf (has n START-303) T303
     ▷ startIf (has n START-306) T306
     ▷ startIf (has n START-308) T308
-    ▷ startIf (has n START-310) T310)
+    ▷ limitIf (has n START-310) o)
 
 -- a plane: plane 1 starts T311, another plane stops it; 0 is no plane, and 5 the present one once more
 unfoldable pub planeTimer : ℕ → ℕ → Timing → Timing
 planeTimer p configure t =
     cond (eqb p 0) t (cond (eqb p 5) t (cond (eqb configure 1) (startTimer T311 t) (stopTimer T311 t)))
 
-unfoldable pub timingBy : ℕ → List Bool → ℕ → Timing
-timingBy n ts configure = timing ts ▷ expiredBy (n / EXPIRED-301 % 16) ▷ orderedBy n ▷ planeTimer (n / PLANE-1 % 16) configure
+unfoldable pub timingBy : ℕ → ℕ → List Bool → ℕ → Timing
+timingBy n o ts configure = timing ts ▷ expiredBy (n / EXPIRED-301 % 16) ▷ orderedBy n o ▷ planeTimer (n / PLANE-1 % 16) configure
 
 -- what the call holds then
 
@@ -326,9 +338,9 @@ userBy r =
 unfoldable pub settled : Call → Row → Draft
 settled c r =
     record {
-      call = nextBy c r (configureBy (r .orders / PLANE-1 % 16) c) (timingBy (r .orders) (c .timers) (configureBy (r .orders / PLANE-1 % 16) c) .running);
-      stops = timingBy (r .orders) (c .timers) (configureBy (r .orders / PLANE-1 % 16) c) .stops;
-      starts = timingBy (r .orders) (c .timers) (configureBy (r .orders / PLANE-1 % 16) c) .starts;
+      call = nextBy c r (configureBy (r .orders / PLANE-1 % 16) c) (timingBy (r .orders) (r .code) (c .timers) (configureBy (r .orders / PLANE-1 % 16) c) .running);
+      stops = timingBy (r .orders) (r .code) (c .timers) (configureBy (r .orders / PLANE-1 % 16) c) .stops;
+      starts = timingBy (r .orders) (r .code) (c .timers) (configureBy (r .orders / PLANE-1 % 16) c) .starts;
       cancel = has (r .orders) CANCEL;
       pdu = pduBy r;
       configure = configureBy (r .orders / PLANE-1 % 16) c;

@@ -3,7 +3,7 @@
 ghost use mathlib.Core.Path.{_≡_};
 ghost use Prim.Native.Nat.{_<_};
 ghost use Rattle.callcontrol.specs.Draft.{asDraft};
-ghost use Rattle.callcontrol.specs.Settle.{has, timing, expireTimer, stopTimer, startTimer, stopIf, startIf, expiredBy, orderedBy, planeTimer, timingBy, configureBy, planeBy, stateBy, keptBy, pathBy, sentBy, nextBy, pduBy, userBy, settled};
+ghost use Rattle.callcontrol.specs.Settle.{has, timing, expireTimer, stopTimer, startTimer, stopIf, startIf, limitTimer, limitIf, expiredBy, orderedBy, planeTimer, timingBy, configureBy, planeBy, stateBy, keptBy, pathBy, sentBy, nextBy, pduBy, userBy, settled};
 use crate::call::Call;
 use crate::call::Path;
 use crate::call::State;
@@ -125,6 +125,30 @@ impl Timing {
         if ordered { self.start(k) } else { self }
     }
 
+    // T310 with the stored code: it runs then, and START is written, unless the code is 0, which is no limit.
+    fn limit(mut self, code: u8) -> Self
+        ensures { λ r. ⌜ r ≡ limitTimer code self ⌝ }
+    {
+        let mut t = self.running;
+        let mut s = self.stops;
+        let mut g = self.starts;
+        let limited = code != 0;
+        let ran = t[T310];
+        s[T310] = !limited & (ran | s[T310]);
+        t[T310] = limited;
+        g[T310] = limited;
+        self.running = t;
+        self.stops = s;
+        self.starts = g;
+        self
+    }
+
+    fn limit_if(self, ordered: bool, code: u8) -> Self
+        ensures { λ r. ⌜ r ≡ limitIf ordered code self ⌝ }
+    {
+        if ordered { self.limit(code) } else { self }
+    }
+
     fn expired_by(self, digit: u64) -> Self
         ensures { λ r. ⌜ r ≡ expiredBy digit self ⌝ }
     {
@@ -141,8 +165,8 @@ impl Timing {
     }
 
     // The stops, then the starts; most rows have neither.
-    fn ordered_by(self, orders: u64) -> Self
-        ensures { λ r. ⌜ r ≡ orderedBy orders self ⌝ }
+    fn ordered_by(self, orders: u64, code: u8) -> Self
+        ensures { λ r. ⌜ r ≡ orderedBy orders code self ⌝ }
     {
         if orders / STOP_301 % 0x10000 == 0 {
             return self;
@@ -159,7 +183,7 @@ impl Timing {
             .start_if(has(orders, START_303), T303)
             .start_if(has(orders, START_306), T306)
             .start_if(has(orders, START_308), T308)
-            .start_if(has(orders, START_310), T310)
+            .limit_if(has(orders, START_310), code)
     }
 
     // Plane 1 starts T311, another plane stops it; the present plane told once more leaves it as it is.
@@ -179,12 +203,12 @@ impl Timing {
     }
 }
 
-fn timing_by(orders: u64, timers: [bool; 7], configure: u8) -> Timing
-    ensures { λ r. ⌜ r ≡ timingBy orders timers configure ⌝ }
+fn timing_by(orders: u64, code: u8, timers: [bool; 7], configure: u8) -> Timing
+    ensures { λ r. ⌜ r ≡ timingBy orders code timers configure ⌝ }
 {
     Timing::new(timers)
         .expired_by(orders / EXPIRED_301 % 16)
-        .ordered_by(orders)
+        .ordered_by(orders, code)
         .with_plane(orders / PLANE_1 % 16, configure)
 }
 
@@ -333,7 +357,7 @@ pub fn settle(call: Call, row: Row) -> Drafted
     let n = row.orders;
     let timers = call.timers;
     let configure = configure_by(n / PLANE_1 % 16, call);
-    let timing = timing_by(n, timers, configure);
+    let timing = timing_by(n, row.code, timers, configure);
     let running = timing.running;
     let stops = timing.stops;
     let starts = timing.starts;

@@ -26,11 +26,11 @@ use Rattle.demands.specs.Runs.{Turn, outcome, run}
 use Rattle.demands.specs.Demands.{Kept, AtMost32, AtMost52}
 use Rattle.demands.proofs.Facts.{apart, left, right}
 use Rattle.demands.proofs.ByRow.{Ender, t301, t302, t303, t306, t310, Row, is-row}
-use Rattle.demands.proofs.Cases.{onPlane, by-plane, by-restart, by-grant, by-grantOrOff}
+use Rattle.demands.proofs.Cases.{onPlane, by-plane, by-restart, by-grant, by-grantOrOff, limitedAs, by-start310}
 use Rattle.demands.proofs.Situations.{call, At, idle, mo, mt, up, broken, restoring, wait, disconnect, situated}
 use Rattle.demands.proofs.Sound.{always}
 use Rattle.demands.proofs.Timers as Timers
-use Rattle.demands.proofs.Timers.{Timed, Clocked, reached, Few, none, one, two, three, eight, ten, ten-eleven, six-ten, few}
+use Rattle.demands.proofs.Timers.{Timed, Clocked, reached, Few, none, one, two, three, eight, ten, ten-eleven, eleven-only, six-only, six-ten, few}
 use Rattle.demands.proofs.Turns.{Turned, passed, took, turned}
 
 -- ---- what a draft takes, a CONFIGURE aside
@@ -67,9 +67,15 @@ taken-size n x h = omega (arith, size-messages x, slot-size (x .pdu), slot-size 
 abbrev lapse : ℕ → Call → Draft
 lapse k c = draft c ▷ expired k ▷ release 2 ▷ tell (ReleaseIndication 2)
 
+-- D-CONNECT and D-CONNECT ACKNOWLEDGE up to T310
+abbrev connecting : (i d o : ℕ) → Call → Draft
+connecting i d o c = draft c ▷ storeId i ▷ storeMode d ▷ storeCode o ▷ storeSent 1 ▷ go State.CallActive ▷ stop T302 ▷ stop T303
+
+abbrev completing : ℕ → Call → Draft
+completing o c = draft c ▷ storeCode o ▷ go State.CallActive ▷ stop T301
+
 abbrev connect : (i g d o : ℕ) → Call → Draft
-connect i g d o c =
-    draft c ▷ storeId i ▷ storeMode d ▷ storeCode o ▷ storeSent 1 ▷ go State.CallActive ▷ stop T302 ▷ stop T303 ▷ start T310 ▷ grantOrOff g ▷ tell (SetupConfirm i g)
+connect i g d o c = connecting i d o c ▷ start T310 ▷ grantOrOff g ▷ tell (SetupConfirm i g)
 
 record Ends (n : ℕ) (c : Call) : Type 0 where
   releasing : Within n (Rows.releasing c)
@@ -129,15 +135,23 @@ module _ (n : ℕ) (enough : 27 ≤ n) where
   within ends (Row.sent z) v h = more _ refl
   within ends (Row.unsent z) (mo {t₃} m) h = more _ (elim t₃ [ true ↦ refl | false ↦ refl ])
   within ends (Row.answers z) v h = more _ refl
-  within ends (Row.completes i g o z) (mt {t₁ = true} l m) h = more _ (by-grantOrOff (λ x. Within 27 (tell (Complete g) x)) g _ refl refl refl refl refl refl refl)
+  within {c} ends (Row.completes i g o z) (mt {t₁ = true} {t₁₀ = true} l m) h =
+      more _ (by-start310 (λ x. Within 27 (tell (Complete g) (grantOrOff g x))) (completing o c) (by-grantOrOff (λ x. Within 27 (tell (Complete g) x)) g _ refl refl refl refl refl refl refl)
+      (by-grantOrOff (λ x. Within 27 (tell (Complete g) x)) g _ refl refl refl refl refl refl refl))
+  within {c} ends (Row.completes i g o z) (mt {t₁ = true} {t₁₀ = false} l m) h =
+      more _ (by-start310 (λ x. Within 27 (tell (Complete g) (grantOrOff g x))) (completing o c) (by-grantOrOff (λ x. Within 27 (tell (Complete g) x)) g _ refl refl refl refl refl refl refl)
+      (by-grantOrOff (λ x. Within 27 (tell (Complete g) x)) g _ refl refl refl refl refl refl refl))
   within ends (Row.completes i g o z) (mt {t₁ = false} l m) h = apart z refl
   within ends (Row.asks-to-send k z y) v h = more _ refl
   within ends (Row.stops-sending k z y) (up {t₁₁} l p m) h = more _ (elim t₁₁ [ true ↦ refl | false ↦ refl ])
   within ends (Row.asks-no-more k z y x) v h = more _ refl
   within ends (Row.modifies d) v h = more _ refl
-  within ends (Row.same-mode i r o d z) v h = more _ (by-restart (λ x. Within 27 (tell (ModifyIndication d) (samePlane x))) r o _ refl refl)
-  within ends (Row.new-mode i r o d z) (up {t₁₁ = true} l p m) h = more _ (by-restart (λ x. Within 27 (tell (ModifyIndication d) (off (storeMode d x)))) r o _ refl refl)
-  within ends (Row.new-mode i r o d z) (up {t₁₁ = false} l p m) h = more _ (by-restart (λ x. Within 27 (tell (ModifyIndication d) (off (storeMode d x)))) r o _ refl refl)
+  within ends (Row.same-mode i r o d z) (up {t₁₀ = true} l p m) h = more _ (by-restart (λ x. Within 27 (tell (ModifyIndication d) (samePlane x))) r o _ refl refl refl)
+  within ends (Row.same-mode i r o d z) (up {t₁₀ = false} l p m) h = more _ (by-restart (λ x. Within 27 (tell (ModifyIndication d) (samePlane x))) r o _ refl refl refl)
+  within ends (Row.new-mode i r o d z) (up {t₁₀ = true} {t₁₁ = true} l p m) h = more _ (by-restart (λ x. Within 27 (tell (ModifyIndication d) (off (storeMode d x)))) r o _ refl refl refl)
+  within ends (Row.new-mode i r o d z) (up {t₁₀ = false} {t₁₁ = true} l p m) h = more _ (by-restart (λ x. Within 27 (tell (ModifyIndication d) (off (storeMode d x)))) r o _ refl refl refl)
+  within ends (Row.new-mode i r o d z) (up {t₁₀ = true} {t₁₁ = false} l p m) h = more _ (by-restart (λ x. Within 27 (tell (ModifyIndication d) (off (storeMode d x)))) r o _ refl refl refl)
+  within ends (Row.new-mode i r o d z) (up {t₁₀ = false} {t₁₁ = false} l p m) h = more _ (by-restart (λ x. Within 27 (tell (ModifyIndication d) (off (storeMode d x)))) r o _ refl refl refl)
   within ends (Row.granted i g) (up {t₁₁ = true} l p m) h = more _ (by-grant (λ x. Within 27 (tell (TxIndication g) x)) g _ refl refl refl refl refl)
   within ends (Row.granted i g) (up {t₁₁ = false} l p m) h = more _ (by-grant (λ x. Within 27 (tell (TxIndication g) x)) g _ refl refl refl refl refl)
   within ends (Row.ceased i) (up {t₁₁} l p m) h = more _ (elim t₁₁ [ true ↦ refl | false ↦ refl ])
@@ -147,9 +161,15 @@ module _ (n : ℕ) (enough : 27 ≤ n) where
   within ends (Row.talked-out k z y) (up {t₁₁} l p m) h = more _ (elim t₁₁ [ true ↦ refl | false ↦ refl ])
   within ends (Row.wants k z) v h = more _ refl
   within ends Row.resumes (broken l m) h = more _ refl
-  within ends (Row.restored i g r o) (restoring l m) h =
+  within ends (Row.restored i g r o) (restoring {t₁₀ = true} l m) h =
       more _ (by-restart (λ x. Within 27 (tell (TxIndication g) x)) r o _
-      (by-grant (λ x. Within 27 (tell (TxIndication g) (start T310 (storeCode (cond (eqb o 16) (x .call .code) o) x)))) g _ refl refl refl refl refl)
+      (by-grant (λ x. Within 27 (tell (TxIndication g) (limitedAs false (storeCode (cond (eqb o 16) (x .call .code) o) x)))) g _ refl refl refl refl refl)
+      (by-grant (λ x. Within 27 (tell (TxIndication g) (limitedAs true (storeCode (cond (eqb o 16) (x .call .code) o) x)))) g _ refl refl refl refl refl)
+      (by-grant (λ x. Within 27 (tell (TxIndication g) x)) g _ refl refl refl refl refl))
+  within ends (Row.restored i g r o) (restoring {t₁₀ = false} l m) h =
+      more _ (by-restart (λ x. Within 27 (tell (TxIndication g) x)) r o _
+      (by-grant (λ x. Within 27 (tell (TxIndication g) (limitedAs false (storeCode (cond (eqb o 16) (x .call .code) o) x)))) g _ refl refl refl refl refl)
+      (by-grant (λ x. Within 27 (tell (TxIndication g) (limitedAs true (storeCode (cond (eqb o 16) (x .call .code) o) x)))) g _ refl refl refl refl refl)
       (by-grant (λ x. Within 27 (tell (TxIndication g) x)) g _ refl refl refl refl refl))
   within ends Row.breaks-again (restoring l m) h = more _ refl
   within ends (Row.continues i k z) v h = more _ (continues v)
@@ -188,13 +208,19 @@ few-ends {c} three = record { releasing = refl; disconnected = λ i. refl; relea
 few-ends {c} eight = record { releasing = refl; disconnected = λ i. refl; released = refl; lapsed = lapsed c refl }
 few-ends {c} ten = record { releasing = refl; disconnected = λ i. refl; released = refl; lapsed = lapsed c refl }
 few-ends {c} ten-eleven = record { releasing = refl; disconnected = λ i. refl; released = refl; lapsed = lapsed c refl }
+few-ends {c} eleven-only = record { releasing = refl; disconnected = λ i. refl; released = refl; lapsed = lapsed c refl }
+few-ends {c} six-only = record { releasing = refl; disconnected = λ i. refl; released = refl; lapsed = lapsed c refl }
 few-ends {c} six-ten = record { releasing = refl; disconnected = λ i. refl; released = refl; lapsed = lapsed c refl }
 
 few-special : {s : State} {w : Path} {c : Call} → Timed s w c → Special 27 s c
 unfolding sizes
 few-special Timers.idle = tt
-few-special (Timers.mo {t = true} h) = λ i g d o. by-grantOrOff (λ x. Within 27 (tell (SetupConfirm i g) x)) g _ refl refl refl refl refl refl refl
-few-special (Timers.mo {t = false} h) = λ i g d o. by-grantOrOff (λ x. Within 27 (tell (SetupConfirm i g) x)) g _ refl refl refl refl refl refl refl
+few-special {c} (Timers.mo {t = true} h) =
+    λ i g d o. by-start310 (λ x. Within 27 (tell (SetupConfirm i g) (grantOrOff g x))) (connecting i d o c) (by-grantOrOff (λ x. Within 27 (tell (SetupConfirm i g) x)) g _ refl refl refl refl refl refl refl)
+    (by-grantOrOff (λ x. Within 27 (tell (SetupConfirm i g) x)) g _ refl refl refl refl refl refl refl)
+few-special {c} (Timers.mo {t = false} h) =
+    λ i g d o. by-start310 (λ x. Within 27 (tell (SetupConfirm i g) (grantOrOff g x))) (connecting i d o c) (by-grantOrOff (λ x. Within 27 (tell (SetupConfirm i g) x)) g _ refl refl refl refl refl refl refl)
+    (by-grantOrOff (λ x. Within 27 (tell (SetupConfirm i g) x)) g _ refl refl refl refl refl refl refl)
 few-special Timers.mt = tt
 few-special Timers.up = tt
 few-special Timers.broken = tt
@@ -265,10 +291,30 @@ six-ends {c} (not-311 {t₁} {t₂} {t₃} {t₆} {t₈} {t₁₀}) =
 six-special : {s : State} {w : Path} {c : Call} → At s w c → Special 47 s c
 unfolding sizes
 six-special idle = tt
-six-special (mo {t₂ = true} {t₃ = true} m) = λ i g d o. by-grantOrOff (λ x. Within 47 (tell (SetupConfirm i g) x)) g _ refl refl refl refl refl refl refl
-six-special (mo {t₂ = true} {t₃ = false} m) = λ i g d o. by-grantOrOff (λ x. Within 47 (tell (SetupConfirm i g) x)) g _ refl refl refl refl refl refl refl
-six-special (mo {t₂ = false} {t₃ = true} m) = λ i g d o. by-grantOrOff (λ x. Within 47 (tell (SetupConfirm i g) x)) g _ refl refl refl refl refl refl refl
-six-special (mo {t₂ = false} {t₃ = false} m) = λ i g d o. by-grantOrOff (λ x. Within 47 (tell (SetupConfirm i g) x)) g _ refl refl refl refl refl refl refl
+six-special {c} (mo {t₂ = true} {t₃ = true} {t₁₀ = true} m) =
+    λ i g d o. by-start310 (λ x. Within 47 (tell (SetupConfirm i g) (grantOrOff g x))) (connecting i d o c) (by-grantOrOff (λ x. Within 47 (tell (SetupConfirm i g) x)) g _ refl refl refl refl refl refl refl)
+    (by-grantOrOff (λ x. Within 47 (tell (SetupConfirm i g) x)) g _ refl refl refl refl refl refl refl)
+six-special {c} (mo {t₂ = true} {t₃ = true} {t₁₀ = false} m) =
+    λ i g d o. by-start310 (λ x. Within 47 (tell (SetupConfirm i g) (grantOrOff g x))) (connecting i d o c) (by-grantOrOff (λ x. Within 47 (tell (SetupConfirm i g) x)) g _ refl refl refl refl refl refl refl)
+    (by-grantOrOff (λ x. Within 47 (tell (SetupConfirm i g) x)) g _ refl refl refl refl refl refl refl)
+six-special {c} (mo {t₂ = true} {t₃ = false} {t₁₀ = true} m) =
+    λ i g d o. by-start310 (λ x. Within 47 (tell (SetupConfirm i g) (grantOrOff g x))) (connecting i d o c) (by-grantOrOff (λ x. Within 47 (tell (SetupConfirm i g) x)) g _ refl refl refl refl refl refl refl)
+    (by-grantOrOff (λ x. Within 47 (tell (SetupConfirm i g) x)) g _ refl refl refl refl refl refl refl)
+six-special {c} (mo {t₂ = true} {t₃ = false} {t₁₀ = false} m) =
+    λ i g d o. by-start310 (λ x. Within 47 (tell (SetupConfirm i g) (grantOrOff g x))) (connecting i d o c) (by-grantOrOff (λ x. Within 47 (tell (SetupConfirm i g) x)) g _ refl refl refl refl refl refl refl)
+    (by-grantOrOff (λ x. Within 47 (tell (SetupConfirm i g) x)) g _ refl refl refl refl refl refl refl)
+six-special {c} (mo {t₂ = false} {t₃ = true} {t₁₀ = true} m) =
+    λ i g d o. by-start310 (λ x. Within 47 (tell (SetupConfirm i g) (grantOrOff g x))) (connecting i d o c) (by-grantOrOff (λ x. Within 47 (tell (SetupConfirm i g) x)) g _ refl refl refl refl refl refl refl)
+    (by-grantOrOff (λ x. Within 47 (tell (SetupConfirm i g) x)) g _ refl refl refl refl refl refl refl)
+six-special {c} (mo {t₂ = false} {t₃ = true} {t₁₀ = false} m) =
+    λ i g d o. by-start310 (λ x. Within 47 (tell (SetupConfirm i g) (grantOrOff g x))) (connecting i d o c) (by-grantOrOff (λ x. Within 47 (tell (SetupConfirm i g) x)) g _ refl refl refl refl refl refl refl)
+    (by-grantOrOff (λ x. Within 47 (tell (SetupConfirm i g) x)) g _ refl refl refl refl refl refl refl)
+six-special {c} (mo {t₂ = false} {t₃ = false} {t₁₀ = true} m) =
+    λ i g d o. by-start310 (λ x. Within 47 (tell (SetupConfirm i g) (grantOrOff g x))) (connecting i d o c) (by-grantOrOff (λ x. Within 47 (tell (SetupConfirm i g) x)) g _ refl refl refl refl refl refl refl)
+    (by-grantOrOff (λ x. Within 47 (tell (SetupConfirm i g) x)) g _ refl refl refl refl refl refl refl)
+six-special {c} (mo {t₂ = false} {t₃ = false} {t₁₀ = false} m) =
+    λ i g d o. by-start310 (λ x. Within 47 (tell (SetupConfirm i g) (grantOrOff g x))) (connecting i d o c) (by-grantOrOff (λ x. Within 47 (tell (SetupConfirm i g) x)) g _ refl refl refl refl refl refl refl)
+    (by-grantOrOff (λ x. Within 47 (tell (SetupConfirm i g) x)) g _ refl refl refl refl refl refl refl)
 six-special (mt l m) = tt
 six-special (up l p m) = tt
 six-special (broken l m) = tt

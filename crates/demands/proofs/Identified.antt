@@ -36,7 +36,7 @@ module _ (x : Draft) where
 
   restart-id : (r o : ℕ) → restart r o x .call .id ≡ x .call .id
   unfolding verbs
-  restart-id r o = by-restart (λ y. y .call .id ≡ x .call .id) r o x refl refl
+  restart-id r o = by-restart (λ y. y .call .id ≡ x .call .id) r o x refl refl refl
 
   grant-id : (g : ℕ) → grant g x .call .id ≡ x .call .id
   unfolding verbs

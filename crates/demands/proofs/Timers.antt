@@ -1,5 +1,5 @@
 -- The timers that run in a reached record, by state and path: none in IDLE; one of T302 and T303 in MO-CALL-SETUP; at most T301 in
--- MT-CALL-SETUP; T310 in CALL-ACTIVE and WAIT, beside it at most T311 with path up and T306 while restoring; T308 in CALL-DISCONNECT.
+-- MT-CALL-SETUP; T310 in CALL-ACTIVE and WAIT where the held code is not 0, beside it at most T311 with path up and T306 while restoring; T308 in CALL-DISCONNECT.
 use Prim.Native.Nat.{ℕ}
 use mathlib.Core.Path.{_≡_, refl}
 use mathlib.Core.Bool.{Bool, true, false, cond, not, _&&_}
@@ -33,12 +33,12 @@ pub data Timed : State → Path → Call → Type 0 where
   mt : {i a d q s pl k o : ℕ} {t : Bool}
       → Timed State.MtCallSetup Path.Up (call State.MtCallSetup Path.Up i a d q s pl k o t false false false false false false)
   up : {i a d q s pl k o : ℕ} {t : Bool}
-      → Timed State.CallActive Path.Up (call State.CallActive Path.Up i a d q s pl k o false false false false false true t)
+      → Timed State.CallActive Path.Up (call State.CallActive Path.Up i a d q s pl k o false false false false false (not (eqb o 0)) t)
   broken : {i a d q s pl k o : ℕ}
-      → Timed State.CallActive Path.Broken (call State.CallActive Path.Broken i a d q s pl k o false false false false false true false)
+      → Timed State.CallActive Path.Broken (call State.CallActive Path.Broken i a d q s pl k o false false false false false (not (eqb o 0)) false)
   restoring : {i a d q s pl k o : ℕ}
-      → Timed State.CallActive Path.Restoring (call State.CallActive Path.Restoring i a d q s pl k o false false false true false true false)
-  wait : {i a d q s pl k o : ℕ} → Timed State.Wait Path.Up (call State.Wait Path.Up i a d q s pl k o false false false false false true false)
+      → Timed State.CallActive Path.Restoring (call State.CallActive Path.Restoring i a d q s pl k o false false false true false (not (eqb o 0)) false)
+  wait : {i a d q s pl k o : ℕ} → Timed State.Wait Path.Up (call State.Wait Path.Up i a d q s pl k o false false false false false (not (eqb o 0)) false)
   disconnect : {i a d q s pl k o : ℕ}
       → Timed State.CallDisconnect Path.Up (call State.CallDisconnect Path.Up i a d q s pl k o false false false false true false false)
 
@@ -51,7 +51,7 @@ data Talks : Draft → Type 0 where
   talks : {i a d q s pl k o : ℕ} {t : Bool} {stops starts : List Bool} {out : Bool} {pdu user : Slot} {configure : ℕ} {taken : Bool}
       → Talks
       (record {
-        call = call State.CallActive Path.Up i a d q s pl k o false false false false false true t;
+        call = call State.CallActive Path.Up i a d q s pl k o false false false false false (not (eqb o 0)) t;
         stops = stops;
         starts = starts;
         cancel = out;
@@ -226,7 +226,20 @@ pub data Few : Call → Type 0 where
   eight : {st : State} {w : Path} {i a d q s pl k o : ℕ} → Few (call st w i a d q s pl k o false false false false true false false)
   ten : {st : State} {w : Path} {i a d q s pl k o : ℕ} → Few (call st w i a d q s pl k o false false false false false true false)
   ten-eleven : {st : State} {w : Path} {i a d q s pl k o : ℕ} → Few (call st w i a d q s pl k o false false false false false true true)
+  eleven-only : {st : State} {w : Path} {i a d q s pl k o : ℕ} → Few (call st w i a d q s pl k o false false false false false false true)
+  six-only : {st : State} {w : Path} {i a d q s pl k o : ℕ} → Few (call st w i a d q s pl k o false false false true false false false)
   six-ten : {st : State} {w : Path} {i a d q s pl k o : ℕ} → Few (call st w i a d q s pl k o false false false true false true false)
+
+-- T310 runs or not, by its code
+beside-311 : {st : State} {w : Path} {i a d q s pl k o : ℕ} (u t : Bool) → Few (call st w i a d q s pl k o false false false false false u t)
+beside-311 true true = ten-eleven
+beside-311 true false = ten
+beside-311 false true = eleven-only
+beside-311 false false = none
+
+beside-306 : {st : State} {w : Path} {i a d q s pl k o : ℕ} (u : Bool) → Few (call st w i a d q s pl k o false false false true false u false)
+beside-306 true = six-ten
+beside-306 false = six-only
 
 pub few : {s : State} {w : Path} {c : Call} → Timed s w c → Few c
 few idle = none
@@ -234,9 +247,8 @@ few (mo {t = true} h) = two
 few (mo {t = false} h) = three
 few (mt {t = true}) = one
 few (mt {t = false}) = none
-few (up {t = true}) = ten-eleven
-few (up {t = false}) = ten
-few broken = ten
-few restoring = six-ten
-few wait = ten
+few (up {o} {t}) = beside-311 (not (eqb o 0)) t
+few (broken {o}) = beside-311 (not (eqb o 0)) false
+few (restoring {o}) = beside-306 (not (eqb o 0))
+few (wait {o}) = beside-311 (not (eqb o 0)) false
 few disconnect = eight

@@ -146,13 +146,14 @@ ReadsBack = (c : Call) (t : Turn) → Kept c → Reads (take (outcome c t .count
 -- How large a buffer to lend
 
 -- the timers that run in a reached record: 301 302 303 306 308 310 311. IDLE none; MO-CALL-SETUP one of T302 and T303; MT-CALL-SETUP at most T301;
--- CALL-ACTIVE T310, beside it T306 exactly while restoring and T311 exactly in plane 1; WAIT T310; CALL-DISCONNECT T308
+-- CALL-ACTIVE T310 exactly where the held code is not 0, beside it T306 exactly while restoring and T311 exactly in plane 1; WAIT T310 likewise;
+-- CALL-DISCONNECT T308
 unfoldable pub timersIn : State → Call → List Bool
 timersIn State.Idle c = false ∷ false ∷ false ∷ false ∷ false ∷ false ∷ false ∷ []
 timersIn State.MoCallSetup c = false ∷ runs c T302 ∷ not (runs c T302) ∷ false ∷ false ∷ false ∷ false ∷ []
 timersIn State.MtCallSetup c = runs c T301 ∷ false ∷ false ∷ false ∷ false ∷ false ∷ false ∷ []
-timersIn State.CallActive c = false ∷ false ∷ false ∷ eqb (pathNumber (c .path)) 2 ∷ false ∷ true ∷ eqb (c .plane) 1 ∷ []
-timersIn State.Wait c = false ∷ false ∷ false ∷ false ∷ false ∷ true ∷ false ∷ []
+timersIn State.CallActive c = false ∷ false ∷ false ∷ eqb (pathNumber (c .path)) 2 ∷ false ∷ not (eqb (c .code) 0) ∷ eqb (c .plane) 1 ∷ []
+timersIn State.Wait c = false ∷ false ∷ false ∷ false ∷ false ∷ not (eqb (c .code) 0) ∷ false ∷ []
 timersIn State.CallDisconnect c = false ∷ false ∷ false ∷ false ∷ true ∷ false ∷ false ∷ []
 
 abbrev pub Timers : Type 0
@@ -238,7 +239,7 @@ Restored =
     × (run freshCall (ts ++ t ∷ us ++ v ∷ []) .address ≡ run freshCall ts .address)
     × (run freshCall (ts ++ t ∷ us ++ v ∷ []) .mode ≡ run freshCall ts .mode)
     × (run freshCall (ts ++ t ∷ us ++ v ∷ []) .code ≡ cond (eqb r 1) (cond (eqb o 16) (run freshCall ts .code) o) (run freshCall ts .code))
-    × (runs (run freshCall (ts ++ t ∷ us ++ v ∷ [])) T310 ≡ cond (eqb r 1) true (runs (run freshCall ts) T310))
+    × (runs (run freshCall (ts ++ t ∷ us ++ v ∷ [])) T310 ≡ cond (eqb r 1) (not (eqb (run freshCall (ts ++ t ∷ us ++ v ∷ []) .code) 0)) (runs (run freshCall ts) T310))
     × (run freshCall (ts ++ t ∷ us ++ v ∷ []) .state ≡ State.CallActive)
     × (run freshCall (ts ++ t ∷ us ++ v ∷ []) .path ≡ Path.Up)
 

@@ -440,10 +440,15 @@ impl Turn {
         self.orders.starts.insert(timer);
     }
 
+    /// Code 0 is no limit: what would start T310 with it stops T310.
     fn start_t310(&mut self, o: u8) {
         self.call.t310_code = o;
         self.orders.t310_code = o;
-        self.start(Timer::T310);
+        if o == 0 {
+            self.stop(Timer::T310);
+        } else {
+            self.start(Timer::T310);
+        }
     }
 
     fn pdu(&mut self, pdu: Message) {

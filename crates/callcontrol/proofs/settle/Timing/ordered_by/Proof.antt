@@ -37,4 +37,4 @@ ordered-by-spec =
     (λ c. search needs)
     (λ c. search needs)
     (λ c. search needs)
-    (λ c. rw (ne-eqb _ _ (c .before .before .before .before .before .before .before .before .before .before .before .before .before .before .before .before .before .before .before .before .before .before .before .before .before .before .if1 .left), c .start-if6 .ensures, c .before .has13 .ensures, c .before .before .start-if5 .ensures, c .before .before .before .has12 .ensures, c .before .before .before .before .start-if4 .ensures, c .before .before .before .before .before .has11 .ensures, c .before .before .before .before .before .before .start-if3 .ensures, c .before .before .before .before .before .before .before .has10 .ensures, c .before .before .before .before .before .before .before .before .start-if2 .ensures, c .before .before .before .before .before .before .before .before .before .has9 .ensures, c .before .before .before .before .before .before .before .before .before .before .start-if .ensures, c .before .before .before .before .before .before .before .before .before .before .before .has8 .ensures, c .before .before .before .before .before .before .before .before .before .before .before .before .stop-if7 .ensures, c .before .before .before .before .before .before .before .before .before .before .before .before .before .has7 .ensures, c .before .before .before .before .before .before .before .before .before .before .before .before .before .before .stop-if6 .ensures, c .before .before .before .before .before .before .before .before .before .before .before .before .before .before .before .has6 .ensures, c .before .before .before .before .before .before .before .before .before .before .before .before .before .before .before .before .stop-if5 .ensures, c .before .before .before .before .before .before .before .before .before .before .before .before .before .before .before .before .before .has5 .ensures, c .before .before .before .before .before .before .before .before .before .before .before .before .before .before .before .before .before .before .stop-if4 .ensures, c .before .before .before .before .before .before .before .before .before .before .before .before .before .before .before .before .before .before .before .has4 .ensures, c .before .before .before .before .before .before .before .before .before .before .before .before .before .before .before .before .before .before .before .before .stop-if3 .ensures, c .before .before .before .before .before .before .before .before .before .before .before .before .before .before .before .before .before .before .before .before .before .has3 .ensures, c .before .before .before .before .before .before .before .before .before .before .before .before .before .before .before .before .before .before .before .before .before .before .stop-if2 .ensures, c .before .before .before .before .before .before .before .before .before .before .before .before .before .before .before .before .before .before .before .before .before .before .before .has2 .ensures, c .before .before .before .before .before .before .before .before .before .before .before .before .before .before .before .before .before .before .before .before .before .before .before .before .stop-if .ensures, c .before .before .before .before .before .before .before .before .before .before .before .before .before .before .before .before .before .before .before .before .before .before .before .before .before .has .ensures)))
+    (λ c. rw (ne-eqb _ _ (c .before .before .before .before .before .before .before .before .before .before .before .before .before .before .before .before .before .before .before .before .before .before .before .before .before .before .if1 .left), c .limit-if .ensures, c .before .has13 .ensures, c .before .before .start-if5 .ensures, c .before .before .before .has12 .ensures, c .before .before .before .before .start-if4 .ensures, c .before .before .before .before .before .has11 .ensures, c .before .before .before .before .before .before .start-if3 .ensures, c .before .before .before .before .before .before .before .has10 .ensures, c .before .before .before .before .before .before .before .before .start-if2 .ensures, c .before .before .before .before .before .before .before .before .before .has9 .ensures, c .before .before .before .before .before .before .before .before .before .before .start-if .ensures, c .before .before .before .before .before .before .before .before .before .before .before .has8 .ensures, c .before .before .before .before .before .before .before .before .before .before .before .before .stop-if7 .ensures, c .before .before .before .before .before .before .before .before .before .before .before .before .before .has7 .ensures, c .before .before .before .before .before .before .before .before .before .before .before .before .before .before .stop-if6 .ensures, c .before .before .before .before .before .before .before .before .before .before .before .before .before .before .before .has6 .ensures, c .before .before .before .before .before .before .before .before .before .before .before .before .before .before .before .before .stop-if5 .ensures, c .before .before .before .before .before .before .before .before .before .before .before .before .before .before .before .before .before .has5 .ensures, c .before .before .before .before .before .before .before .before .before .before .before .before .before .before .before .before .before .before .stop-if4 .ensures, c .before .before .before .before .before .before .before .before .before .before .before .before .before .before .before .before .before .before .before .has4 .ensures, c .before .before .before .before .before .before .before .before .before .before .before .before .before .before .before .before .before .before .before .before .stop-if3 .ensures, c .before .before .before .before .before .before .before .before .before .before .before .before .before .before .before .before .before .before .before .before .before .has3 .ensures, c .before .before .before .before .before .before .before .before .before .before .before .before .before .before .before .before .before .before .before .before .before .before .stop-if2 .ensures, c .before .before .before .before .before .before .before .before .before .before .before .before .before .before .before .before .before .before .before .before .before .before .before .has2 .ensures, c .before .before .before .before .before .before .before .before .before .before .before .before .before .before .before .before .before .before .before .before .before .before .before .before .stop-if .ensures, c .before .before .before .before .before .before .before .before .before .before .before .before .before .before .before .before .before .before .before .before .before .before .before .before .before .has .ensures)))
