@@ -1,0 +1,134 @@
+// Which timers are due at a reading, and in what order they are handed out.
+ghost use mathlib.Core.Path.{_≡_};
+ghost use mathlib.Core.List.{_++_};
+ghost use Prim.Native.Nat.{_≤_, _<_};
+ghost use lib.ListN.{length, drop};
+ghost use Rattle.timers.specs.Due.{keyOf, keysOf, oneIf, countOf, nearer, below, numberOf, handed, stays, staying};
+use crate::wrap::forward;
+use crate::wrap::is_back;
+
+// A timer's key at a reading: 0 where it is not due. The later it is the greater is its key, and of two that are equally late the one with
+// the lower number has the greater; no two timers have one key.
+fn key_of(place: u64, running: bool, deadline: u32, reading: u32) -> u64
+    requires { ⌜ place < 7 ⌝ }
+    ensures { λ r. ⌜ r ≡ keyOf place running deadline reading ⌝ }
+{
+    if !running {
+        return 0;
+    }
+    let late = forward(deadline, reading);
+    if is_back(late) {
+        return 0;
+    }
+    late as u64 * 8 + (7 - place)
+}
+
+// The seven keys, by rising number.
+pub fn keys_of(running: [bool; 7], deadlines: [u32; 7], reading: u32) -> [u64; 7]
+    ensures { λ r. ⌜ r ≡ keysOf running deadlines reading ⌝ }
+{
+    [
+        key_of(0, running[0], deadlines[0], reading),
+        key_of(1, running[1], deadlines[1], reading),
+        key_of(2, running[2], deadlines[2], reading),
+        key_of(3, running[3], deadlines[3], reading),
+        key_of(4, running[4], deadlines[4], reading),
+        key_of(5, running[5], deadlines[5], reading),
+        key_of(6, running[6], deadlines[6], reading),
+    ]
+}
+
+fn one_if(key: u64) -> usize
+    ensures { λ r. ⌜ r ≡ oneIf key ⌝ }
+    ensures { λ r. ⌜ r ≤ 1 ⌝ }
+{
+    if key == 0 { 0 } else { 1 }
+}
+
+// How many timers are due.
+pub fn count_of(keys: [u64; 7]) -> usize
+    ensures { λ r. ⌜ r ≡ countOf keys ⌝ }
+{
+    one_if(keys[0])
+        + one_if(keys[1])
+        + one_if(keys[2])
+        + one_if(keys[3])
+        + one_if(keys[4])
+        + one_if(keys[5])
+        + one_if(keys[6])
+}
+
+// The greater of two keys below a bound, where the first is below it.
+fn nearer(bound: u64, best: u64, key: u64) -> u64
+    ensures { λ r. ⌜ r ≡ nearer bound best key ⌝ }
+{
+    if bound <= key {
+        return best;
+    }
+    if best < key { key } else { best }
+}
+
+// The greatest key below a bound, 0 where there is none.
+fn below(bound: u64, keys: [u64; 7]) -> u64
+    ensures { λ r. ⌜ r ≡ below bound keys ⌝ }
+{
+    let a = nearer(bound, 0, keys[0]);
+    let b = nearer(bound, a, keys[1]);
+    let c = nearer(bound, b, keys[2]);
+    let d = nearer(bound, c, keys[3]);
+    let e = nearer(bound, d, keys[4]);
+    let f = nearer(bound, e, keys[5]);
+    nearer(bound, f, keys[6])
+}
+
+// The number of the timer that a key is of.
+fn number_of(key: u64) -> u16
+    ensures { λ r. ⌜ r ≡ numberOf key ⌝ }
+{
+    match key % 8 {
+        7 => 301,
+        6 => 302,
+        5 => 303,
+        4 => 306,
+        3 => 308,
+        2 => 310,
+        1 => 311,
+        _ => 0,
+    }
+}
+
+// Hands out: the numbers of the count greatest keys, the greatest first; later elements of the list stay.
+pub fn hand_out(keys: [u64; 7], count: usize, due: &mut [u16])
+    requires { ⌜ count ≤ length (now due) ⌝ }
+    ensures { λ _. ⌜ now (due .exit) ≡ handed count 34359738368 keys ++ drop count (now (due .entry)) ⌝ }
+{
+    let mut bound: u64 = 34359738368;
+    let mut i: usize = 0;
+    while i < count {
+        let key = below(bound, keys);
+        due[i] = number_of(key);
+        bound = key;
+        i += 1;
+    }
+}
+
+fn stays(running: bool, key: u64) -> bool
+    ensures { λ r. ⌜ r ≡ stays running key ⌝ }
+{
+    running & (key == 0)
+}
+
+// Those handed out no longer run.
+pub fn staying(running: [bool; 7], keys: [u64; 7]) -> [bool; 7]
+    ensures { λ r. ⌜ r ≡ staying running keys ⌝ }
+{
+    [
+        stays(running[0], keys[0]),
+        stays(running[1], keys[1]),
+        stays(running[2], keys[2]),
+        stays(running[3], keys[3]),
+        stays(running[4], keys[4]),
+        stays(running[5], keys[5]),
+        stays(running[6], keys[6]),
+    ]
+}
