@@ -1,2 +1,11 @@
+pub mod Agreement
+pub mod Calls
+pub mod Claims
 pub mod Determined
 pub mod Handing
+pub mod Holding
+pub mod Keys
+pub mod Places
+pub mod Tests
+pub mod Witness
+pub mod Wrapping

@@ -41,10 +41,10 @@ below bound keys =
     nearer bound
     (nearer bound
     (nearer bound
-    (nearer bound (nearer bound (nearer bound (nearer bound 0 (getD keys 0 0)) (getD keys 1 0)) (getD keys 2 0)) (getD keys 3 0))
-    (getD keys 4 0))
-    (getD keys 5 0))
-    (getD keys 6 0)
+    (nearer bound (nearer bound (nearer bound (nearer bound 0 (getD keys 6 0)) (getD keys 5 0)) (getD keys 4 0)) (getD keys 3 0))
+    (getD keys 2 0))
+    (getD keys 1 0))
+    (getD keys 0 0)
 
 -- the number of the timer that a key is of
 unfoldable pub numberOf : ℕ → ℕ

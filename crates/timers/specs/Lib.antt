@@ -2,3 +2,6 @@
 pub mod Wrap
 pub mod Due
 pub mod Bank
+pub mod Time
+pub mod Claims
+pub mod Witness

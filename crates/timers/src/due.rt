@@ -72,13 +72,13 @@ fn nearer(bound: u64, best: u64, key: u64) -> u64
 fn below(bound: u64, keys: [u64; 7]) -> u64
     ensures { λ r. ⌜ r ≡ below bound keys ⌝ }
 {
-    let a = nearer(bound, 0, keys[0]);
-    let b = nearer(bound, a, keys[1]);
-    let c = nearer(bound, b, keys[2]);
+    let a = nearer(bound, 0, keys[6]);
+    let b = nearer(bound, a, keys[5]);
+    let c = nearer(bound, b, keys[4]);
     let d = nearer(bound, c, keys[3]);
-    let e = nearer(bound, d, keys[4]);
-    let f = nearer(bound, e, keys[5]);
-    nearer(bound, f, keys[6])
+    let e = nearer(bound, d, keys[2]);
+    let f = nearer(bound, e, keys[1]);
+    nearer(bound, f, keys[0])
 }
 
 // The number of the timer that a key is of.
