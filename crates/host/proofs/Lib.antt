@@ -1,4 +1,7 @@
 pub mod Answers
+pub mod BankAnswers
+pub mod BankDetermined
+pub mod BankPacking
 pub mod Determined
 pub mod Packing
 pub mod Runs

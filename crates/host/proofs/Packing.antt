@@ -18,11 +18,11 @@ use Rattle.host.specs.Laws.{PackedIsUnpacked, SoundIsUnpacked, HeldIsPac
 use Rattle.demands.proofs.Facts.{left, right}
 
 -- n elements of a list from a position on, one by one
-abbrev items : {A : Type 0} → ℕ → ℕ → List A → A → List A
+abbrev pub items : {A : Type 0} → ℕ → ℕ → List A → A → List A
 items zero k l d = []
 items (suc n) k l d = getD l k d ∷ items n (suc k) l d
 
-items-drop : {A : Type 0} (n k : ℕ) (l : List A) (d : A) → length l ≡ k + n → items n k l d ≡ drop k l
+pub items-drop : {A : Type 0} (n k : ℕ) (l : List A) (d : A) → length l ≡ k + n → items n k l d ≡ drop k l
 items-drop zero k l d e = sym (drop-of-length-le l {i = k} (omega arith))
 items-drop (suc n) k l d e = rw (drop-cons l k d (omega arith), items-drop n (suc k) l d (omega arith))
 
@@ -68,21 +68,21 @@ path-back (suc zero) h = refl
 path-back (suc (suc zero)) h = refl
 path-back (suc (suc (suc n))) h = absurd (omega arith)
 
-flag-small : (b : Bool) → leb (flag b) 1 ≡ true
+pub flag-small : (b : Bool) → leb (flag b) 1 ≡ true
 flag-small true = refl
 flag-small false = refl
 
-flag-there : (b : Bool) → eqb (flag b) 1 ≡ b
+pub flag-there : (b : Bool) → eqb (flag b) 1 ≡ b
 flag-there true = refl
 flag-there false = refl
 
-flag-back : (n : ℕ) → n ≤ 1 → flag (eqb n 1) ≡ n
+pub flag-back : (n : ℕ) → n ≤ 1 → flag (eqb n 1) ≡ n
 flag-back zero h = refl
 flag-back (suc zero) h = refl
 flag-back (suc (suc n)) h = absurd (omega arith)
 
 -- the number that bytes stand for has those bytes
-bytes-number : (w at : ℕ) (s : List ℕ) → ((i : ℕ) → getD s i 0 < 256) → bytes w (number w s at) ≡ items w at s 0
+pub bytes-number : (w at : ℕ) (s : List ℕ) → ((i : ℕ) → getD s i 0 < 256) → bytes w (number w s at) ≡ items w at s 0
 unfolding number bytes
 bytes-number zero at s small = refl
 bytes-number (suc w) at s small =

@@ -3,3 +3,5 @@ pub mod Entries
 pub mod Laws
 pub mod Runs
 pub mod SerialLine
+pub mod Bank
+pub mod BankLaws

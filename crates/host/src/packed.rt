@@ -52,7 +52,7 @@ fn word_at(s: &[u8], at: usize) -> u16
     low + 256 * high
 }
 
-fn long_at(s: &[u8], at: usize) -> u32
+pub fn long_at(s: &[u8], at: usize) -> u32
     requires { ⌜ at + 4 ≤ length (now s) ⌝ }
     ensures { λ r. ⌜ r ≡ number 4 (now (s .entry)) at ⌝ }
 {

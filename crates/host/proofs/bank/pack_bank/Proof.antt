@@ -1,0 +1,58 @@
+-- Eight numbers and seven flags are the whole.
+use Rattle.host.specs.Bank.{flags, packedBank}
+use Rattle.records.specs.Bytes.{bytes}
+use borrow.Author.Needs.{needs}
+use native.Mathlib.Omega.{arith}
+use Rattle.host.proofs.bank.pack_bank.Statement.{statement}
+use Rattle.host.proofs.bank.pack_bank.Tie as tie
+
+put-flags-requires : tie.Need-put-flags-requires
+put-flags-requires c κs =
+    let p8 = c .before .before .before in
+    let p7 = p8 .before .before .before .before in
+    let p6 = p7 .before .before .before .before in
+    let p5 = p6 .before .before .before .before in
+    let p4 = p5 .before .before .before .before in
+    let p3 = p4 .before .before .before .before in
+    let p2 = p3 .before .before .before .before in
+    let p1 = p2 .before .before .before .before in
+    let start = p1 .before .before .before .before .before in
+    omega (arith, p8 .put-long8 .kept, p7 .put-long7 .kept, p6 .put-long6 .kept, p5 .put-long5 .kept, p4 .put-long4 .kept, p3 .put-long3 .kept, p2 .put-long2 .kept, p1 .put-long .kept, start .pre)
+
+returns : tie.Need-returns
+unfolding packedBank flags bytes
+returns c =
+    let f = c .before .before in
+    let p8 = f .before .before .before .before in
+    let p7 = p8 .before .before .before .before in
+    let p6 = p7 .before .before .before .before in
+    let p5 = p6 .before .before .before .before in
+    let p4 = p5 .before .before .before .before in
+    let p3 = p4 .before .before .before .before in
+    let p2 = p3 .before .before .before .before in
+    let p1 = p2 .before .before .before .before in
+    rw (f .put-flags .ensures)
+    (rw (p8 .put-long8 .ensures, p7 .put-long7 .ensures, p6 .put-long6 .ensures, p5 .put-long5 .ensures, p4 .put-long4 .ensures, p3 .put-long3 .ensures, p2 .put-long2 .ensures, p1 .put-long .ensures))
+
+pub pack-bank-spec : {M : Type 1} → statement M
+pack-bank-spec =
+    tie.close
+    (tie.spec
+    (λ c κs. search needs)
+    (λ c. search needs)
+    (λ c κs. search needs)
+    (λ c. search needs)
+    (λ c κs. search needs)
+    (λ c. search needs)
+    (λ c κs. search needs)
+    (λ c. search needs)
+    (λ c κs. search needs)
+    (λ c. search needs)
+    (λ c κs. search needs)
+    (λ c. search needs)
+    (λ c κs. search needs)
+    (λ c. search needs)
+    (λ c κs. search needs)
+    put-flags-requires
+    (λ c. search needs)
+    returns)
