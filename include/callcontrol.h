@@ -37,6 +37,11 @@ extern "C" {
 #define CALLCONTROL_READER_SIZE 2u          /* bytes of a reader of pieces */
 #define CALLCONTROL_CARRY_SIZE 64u          /* bytes of its carry, and of the longest record it hands on */
 
+#define CALLCONTROL_BANK_SIZE 39u           /* bytes of a bank of timers */
+#define CALLCONTROL_TIMERS 7u               /* the timers in it, so the most that one reading hands out */
+#define CALLCONTROL_LENGTHS 22u             /* entries of a table of lengths */
+#define CALLCONTROL_LENGTH_MAX 1073741824u  /* ms, 2^30: the longest a timer runs; the shortest is 1 */
+
 /* ---- Answers ------------------------------------------------------------------------------- */
 
 /* The lowest number that applies is given. A refusal counts 0 bytes and changes no byte. */
@@ -56,6 +61,14 @@ enum callcontrol_pieces_answer {
     CALLCONTROL_LENGTH_IMPOSSIBLE = 20, /* a length below 4 or above 64: the reader stops */
     CALLCONTROL_READER_STOPPED = 21,    /* and stays so until callcontrol_pieces_fresh */
     CALLCONTROL_CARRY_TOO_SHORT = 22    /* the carry has under 64 bytes */
+};
+
+/* Of a bank of timers, after 1 for bytes that are no bank. */
+enum callcontrol_bank_answer {
+    CALLCONTROL_TIMER_UNKNOWN = 30,    /* no timer has this number */
+    CALLCONTROL_BAD_TIMER_LENGTH = 31, /* a length of 0 or over 2^30, or none in the table */
+    CALLCONTROL_READING_EARLIER = 32,  /* the reading is earlier than the last */
+    CALLCONTROL_LIST_SHORT = 33        /* more timers are due than the lent list holds */
 };
 
 /* ---- The call record ----------------------------------------------------------------------- */
@@ -298,6 +311,73 @@ static inline size_t callcontrol_size_of(uint32_t result)
 static inline size_t callcontrol_used_of(uint32_t result)
 {
     return (size_t)(result & 0xFFu);
+}
+
+/* ---- Timers kept by the library ------------------------------------------------------------ */
+
+/*
+ * A bank keeps the seven timers over the host's millisecond counter, 32 bits that wrap. Its four
+ * functions return answer * 2^24 + count. A refusal counts 0 and changes nothing.
+ *
+ * They are right as long as each reading is at or after the last accepted one, and less than 2^31
+ * ms (24 days) after it: so read the counter while no timer runs, too.
+ */
+
+/* Offsets in a bank; the timers' own stand in the order 301 302 303 306 308 310 311. */
+enum callcontrol_bank_field {
+    CALLCONTROL_BANK_AT_LAST = 0,      /* u32, the last reading that was accepted */
+    CALLCONTROL_BANK_AT_DEADLINES = 4, /* seven u32; the deadline of a stopped timer says nothing */
+    CALLCONTROL_BANK_AT_RUNNING = 32   /* seven u8, each 0 or 1 */
+};
+
+/* Places in a table of lengths, in milliseconds; T310's follow one another by code, 0 to 15. */
+enum callcontrol_length {
+    CALLCONTROL_LENGTH_OF_T301 = 0,
+    CALLCONTROL_LENGTH_OF_T302 = 1,
+    CALLCONTROL_LENGTH_OF_T303 = 2,
+    CALLCONTROL_LENGTH_OF_T306 = 3,
+    CALLCONTROL_LENGTH_OF_T308 = 4,
+    CALLCONTROL_LENGTH_OF_T311 = 5,
+    CALLCONTROL_LENGTH_OF_T310 = 6
+};
+
+/*
+ * Makes a bank in which no timer runs, with a first reading of the counter, and counts 39; answer
+ * 1 and nothing written if bank_len is not 39.
+ */
+uint32_t callcontrol_bank_new(uint8_t *bank, size_t bank_len, uint32_t reading);
+
+/* STOP: the timer no longer runs, if it ran. Answer 0, 1 or 30, count 0. */
+uint32_t callcontrol_bank_stop(uint8_t *bank, size_t bank_len, uint16_t timer);
+
+/*
+ * START: the timer runs from the last accepted reading on for its length in the table, anew if it
+ * ran; code matters for T310 alone. A table may end behind the entry asked for. Answer 0, 1, 30 or
+ * 31, count 0.
+ */
+uint32_t callcontrol_bank_start(uint8_t *bank, size_t bank_len,
+                                const uint32_t *lengths, size_t lengths_len,
+                                uint16_t timer, uint8_t code);
+
+/*
+ * A new reading: writes the numbers of all timers then due to the front of due, the earliest
+ * deadline first and equal ones by rising number, and counts them; they no longer run. Later
+ * elements of due stay as they are. Answer 0, 1, 32 or 33; a list of CALLCONTROL_TIMERS is always
+ * long enough, and after 33 the reading counts as not made.
+ */
+uint32_t callcontrol_bank_advance(uint8_t *bank, size_t bank_len, uint32_t reading,
+                                  uint16_t *due, size_t due_len);
+
+/* The answer in a result of a bank's function. */
+static inline unsigned int callcontrol_bank_answer_of(uint32_t result)
+{
+    return (unsigned int)(result >> 24);
+}
+
+/* The count in a result of a bank's function: of callcontrol_bank_advance, the timers due. */
+static inline size_t callcontrol_bank_count_of(uint32_t result)
+{
+    return (size_t)(result & 0xFFFFu);
 }
 
 #ifdef __cplusplus
