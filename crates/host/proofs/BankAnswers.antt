@@ -13,7 +13,7 @@ use Rattle.timers.specs.Wrap.{forward, isBack}
 use Rattle.timers.specs.Due.{oneIf, countOf}
 use Rattle.timers.specs.Bank.{Outcome, refusal, keysAt, advanced, advancedTo, handedAt}
 use Rattle.host.specs.Bank.{packedBank, isBank, heldBank, unpackedBank, bankWord, BankLeft, leftBy, onBank}
-use Rattle.host.proofs.Tests.{left, right}
+use Rattle.demands.proofs.Facts.{left, right}
 
 -- bytes that are no bank
 pub no-bank : (s list : List ℕ) (call : Bank → Outcome) {is : Bool} → is ≡ isBank s → not is ≡ true

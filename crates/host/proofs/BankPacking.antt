@@ -12,7 +12,7 @@ use Rattle.timers.specs.declared.bank.Bank.{Bank}
 use Rattle.host.specs.Bank.{flags, packedBank, isBank, heldBank, unpackedBank}
 use Rattle.host.specs.BankLaws.{PackedBankIsUnpacked, HeldBankIsPacked}
 use Rattle.host.proofs.Packing.{items-drop, bytes-number, flag-small, flag-there, flag-back}
-use Rattle.host.proofs.Tests.{left, right}
+use Rattle.demands.proofs.Facts.{left, right}
 
 is-bank : (b : Bank) → isBank (packedBank b) ≡ true
 unfolding isBank packedBank flags bytes

@@ -1,7 +1,9 @@
 pub mod Answers
 pub mod BankAnswers
+pub mod BankBytes
 pub mod BankDetermined
 pub mod BankPacking
+pub mod BankRuns
 pub mod Determined
 pub mod Packing
 pub mod Runs

@@ -5,3 +5,4 @@ pub mod Runs
 pub mod SerialLine
 pub mod Bank
 pub mod BankLaws
+pub mod BankRuns
