@@ -18,14 +18,14 @@ four-bytes v = refl
 -- eight numbers of four bytes each, and what comes after them
 pub eight-numbers : (s : List ℕ) (a b c d e f g h : ℕ) (rest : List ℕ)
     → sets
-        (sets
-        (sets
-        (sets (sets (sets (sets (sets (sets s 0 (bytes 4 a)) 4 (bytes 4 b)) 8 (bytes 4 c)) 12 (bytes 4 d)) 16 (bytes 4 e)) 20 (bytes 4 f)) 24
-        (bytes 4 g)) 28
-        (bytes 4 h)) 32
-        rest
+    (sets
+    (sets
+    (sets (sets (sets (sets (sets (sets s 0 (bytes 4 a)) 4 (bytes 4 b)) 8 (bytes 4 c)) 12 (bytes 4 d)) 16 (bytes 4 e)) 20 (bytes 4 f)) 24
+    (bytes 4 g)) 28
+    (bytes 4 h)) 32
+    rest
     ≡ sets s 0
-        (bytes 4 a ++ (bytes 4 b ++ (bytes 4 c ++ (bytes 4 d ++ (bytes 4 e ++ (bytes 4 f ++ (bytes 4 g ++ (bytes 4 h ++ rest))))))))
+    (bytes 4 a ++ (bytes 4 b ++ (bytes 4 c ++ (bytes 4 d ++ (bytes 4 e ++ (bytes 4 f ++ (bytes 4 g ++ (bytes 4 h ++ rest))))))))
 eight-numbers s a b c d e f g h rest =
     let s1 = sets s 0 (bytes 4 a) in
     let s2 = sets s1 4 (bytes 4 b) in

@@ -14,7 +14,7 @@ use Rattle.timers.specs.Bank.{placeOf, keysAt}
 use Rattle.timers.specs.Time.{Times, isDue, Kept, occurs}
 use Rattle.timers.specs.Claims.{Runs, Holds, dueOf, before?, beforeAll, inOrder}
 use Rattle.timers.proofs.Tests.{by-test, decide, cond-same, All, weaken}
-use Rattle.timers.proofs.Keys.{most, sum, total, Distinct, falling, one-fewer, falling-total, falling-keys, sum-all, handed-is}
+use Rattle.timers.proofs.Keys.{most, sum, total, Distinct, falling, one-fewer, falling-total, falling-keys, sum-all, below-is, handed-is}
 use Rattle.timers.proofs.Places.{by-place, by-number, other-timer, rising}
 use Rattle.timers.proofs.Wrapping.{not-back, back, ahead, behind}
 
@@ -234,8 +234,9 @@ module _ (m : Times) (time : ℕ) where
       rw (comes-before-all m time x (falling n x keys) head rest, falling-order n x (f .1))
 
   handed-falling : (n b : ℕ) → handed n b (trueKeys m time) ≡ map numberOf (falling n b (trueKeys m time))
-  unfolding below
-  handed-falling = handed-is (trueKeys m time) (λ b. refl)
+  handed-falling =
+      let k : ℕ → ℕ → ℕ = λ p n. trueKey time p (m .until n) in
+      handed-is (trueKeys m time) (λ b. below-is b (k 0 301) (k 1 302) (k 2 303) (k 3 306) (k 4 308) (k 5 310) (k 6 311))
 
 -- what is handed out in true time: each timer due once, in its order
 abbrev pub handedIn : Times → ℕ → List ℕ

@@ -1,24 +1,49 @@
 -- Taking the greatest key below a bound again and again gives each key once, the greatest first.
-use Prim.Native.Nat.{ℕ, zero, suc, _+_, _<_, _≤_, zero-le}
-use mathlib.Core.Path.{_≡_, refl, sym, _∙_, ap}
+use Prim.Native.Nat.{ℕ, zero, suc, _+_, _<_, _≤_, max, zero-le}
+use mathlib.Core.Path.{_≡_, refl, sym, _∙_, ap, subst}
 use mathlib.Core.Bool.{Bool, true, false, cond}
 use mathlib.Core.List.{List, [], _∷_, map}
 use native.Mathlib.Omega.{arith}
-use lib.Dec.{ltb, leb, eqb}
-use borrow.Author.Tests.{ltb-true, ltb-false, leb-true, leb-false, eqb-true, eqb-false, lt-ltb, le-ltb, eq-eqb, ne-eqb}
-use Rattle.timers.specs.Due.{nearer, oneIf, below, numberOf, handed}
+use lib.Dec.{ltb, eqb}
+use borrow.Author.Tests.{ltb-true, ltb-false, eqb-true, lt-ltb, le-ltb, ne-eqb}
+use Rattle.timers.specs.Due.{under, greater, oneIf, below, numberOf, handed}
 use Rattle.timers.proofs.Tests.{by-test, decide, All, weaken}
 
-pub nearer-cases : (b m x : ℕ) (P : ℕ → Type 0) → (b ≤ x → P m) → (x < b → m < x → P x) → (x < b → x ≤ m → P m) → P (nearer b m x)
-unfolding nearer
-nearer-cases b m x P f g h =
-    by-test (leb b x) m (cond (ltb m x) x m) P (λ q. f (leb-true b x q))
-    (λ q. by-test (ltb m x) x m P (λ r. g (leb-false b x q) (ltb-true m x r)) (λ r. h (leb-false b x q) (ltb-false m x r)))
+-- the greatest of a key, where it is below a bound, and of one more
+greatest-cases : (b m x : ℕ) (P : ℕ → Type 0) → (b ≤ x → P m) → (x < b → m < x → P x) → (x < b → x ≤ m → P m) → P (greater (under b x) m)
+unfolding greater under
+greatest-cases b m x P f g h =
+    decide (ltb x b)
+    (λ q.
+    let low : x < b = ltb-true x b q in
+    rw q
+    (by-test (ltb x m) m x P (λ r. let less = ltb-true x m r in h low (omega arith))
+    (λ r.
+    let least : m ≤ x = ltb-false x m r in
+    decide (ltb m x) (λ k. g low (ltb-true m x k))
+    (λ k. let same : m ≡ x = (let most = ltb-false m x k in omega arith) in subst P same (h low (omega arith))))))
+    (λ q.
+    let high : b ≤ x = ltb-false x b q in
+    rw q
+    (by-test (ltb 0 m) m 0 P (λ r. f high) (λ r. let none : m ≡ 0 = (let least = ltb-false 0 m r in omega arith) in subst P none (f high))))
+
+-- ---- the greatest, by pairs or one after the other
+
+greater-is : (a b : ℕ) → greater a b ≡ max a b
+unfolding greater
+greater-is a b =
+    decide (ltb a b) (λ q. let less = ltb-true a b q in rw q (omega arith)) (λ q. let least = ltb-false a b q in rw q (omega arith))
+
+by-threes : (a b c : ℕ) → max (max a b) c ≡ max a (max b c)
+by-threes a b c = omega arith
+
+with-none : (a : ℕ) → max a 0 ≡ a
+with-none a = omega arith
 
 -- the greatest key below a bound, of any number of keys
 abbrev pub most : ℕ → List ℕ → ℕ
 most b [] = 0
-most b (x ∷ xs) = nearer b (most b xs) x
+most b (x ∷ xs) = greater (under b x) (most b xs)
 
 -- what the keys below a bound weigh
 abbrev pub sum : (ℕ → ℕ) → ℕ → List ℕ → ℕ
@@ -38,22 +63,22 @@ Distinct (x ∷ xs) = All (λ y. x ≡ y → x ≡ 0) xs × Distinct xs
 most-small : (b : ℕ) (xs : List ℕ) → most b xs ≤ b
 most-small b [] = zero-le
 most-small b (x ∷ xs) =
-    nearer-cases b (most b xs) x (λ r. r ≤ b) (λ h. most-small b xs) (λ h k. omega arith) (λ h k. most-small b xs)
+    greatest-cases b (most b xs) x (λ r. r ≤ b) (λ h. most-small b xs) (λ h k. omega arith) (λ h k. most-small b xs)
 
 most-under : (b : ℕ) (xs : List ℕ) → 0 < most b xs → most b xs < b
 most-under b [] = λ h. absurd (omega arith)
 most-under b (x ∷ xs) =
-    nearer-cases b (most b xs) x (λ r. 0 < r → r < b) (λ h. most-under b xs) (λ h k p. h) (λ h k. most-under b xs)
+    greatest-cases b (most b xs) x (λ r. 0 < r → r < b) (λ h. most-under b xs) (λ h k p. h) (λ h k. most-under b xs)
 
 -- what holds of 0 and of each key holds of the greatest below a bound
 one-of : (P : ℕ → Type 0) (b : ℕ) (xs : List ℕ) → P 0 → All P xs → P (most b xs)
 one-of P b [] z a = z
 one-of P b (x ∷ xs) z a =
-    nearer-cases b (most b xs) x P (λ h. one-of P b xs z (a .1)) (λ h k. a .0) (λ h k. one-of P b xs z (a .1))
+    greatest-cases b (most b xs) x P (λ h. one-of P b xs z (a .1)) (λ h k. a .0) (λ h k. one-of P b xs z (a .1))
 
-nearer-low : (b m x c : ℕ) → nearer b m x < c → (m < c) × (x < b → x < c)
-nearer-low b m x c =
-    nearer-cases b m x (λ r. r < c → (m < c) × (x < b → x < c)) (λ h k. (k, λ p. absurd (omega arith))) (λ h k l. (omega arith, λ p. l))
+both-low : (b m x c : ℕ) → greater (under b x) m < c → (m < c) × (x < b → x < c)
+both-low b m x c =
+    greatest-cases b m x (λ r. r < c → (m < c) × (x < b → x < c)) (λ h k. (k, λ p. absurd (omega arith))) (λ h k l. (omega arith, λ p. l))
     (λ h k l. (l, λ p. omega arith))
 
 head-same : (v x b c : ℕ) → (x < b → x < c) → c ≤ b → cond (ltb x b) v 0 ≡ cond (ltb x c) v 0
@@ -64,7 +89,7 @@ head-same v x b c f h =
 sum-same : (w : ℕ → ℕ) (xs : List ℕ) (b c : ℕ) → most b xs < c → c ≤ b → sum w b xs ≡ sum w c xs
 sum-same w [] b c h k = refl
 sum-same w (x ∷ xs) b c h k =
-    let l = nearer-low b (most b xs) x c h in
+    let l = both-low b (most b xs) x c h in
     rw (head-same (w x) x b c (l .1) k, sum-same w xs b c (l .0) k)
 
 pub sum-none : (w : ℕ → ℕ) (xs : List ℕ) → sum w 0 xs ≡ 0
@@ -79,7 +104,7 @@ split w z b (x ∷ xs) d =
     let ih = split w z b xs (d .1) in
     let small = most-small b xs in
     let apart : x ≡ m → x ≡ 0 = one-of (λ y. x ≡ y → x ≡ 0) b xs (λ e. e) (d .0) in
-    nearer-cases b m x (λ r. cond (ltb x b) (w x) 0 + sum w b xs ≡ w r + (cond (ltb x r) (w x) 0 + sum w r xs))
+    greatest-cases b m x (λ r. cond (ltb x b) (w x) 0 + sum w b xs ≡ w r + (cond (ltb x r) (w x) 0 + sum w r xs))
     (λ h. rw (le-ltb x b h, le-ltb x m (omega arith)) (omega (arith, ih)))
     (λ h k. rw (lt-ltb x b h, le-ltb x x (omega arith), sum-same w xs b x k (omega arith)) (omega arith))
     (λ h k.
@@ -140,6 +165,12 @@ module _ (xs : List ℕ) (d : Distinct xs) where
 pub sum-all : (w : ℕ → ℕ) (b : ℕ) (xs : List ℕ) → All (λ y. y < b) xs → sum w b xs ≡ total w xs
 sum-all w b [] a = refl
 sum-all w b (x ∷ xs) a = rw (lt-ltb x b (a .0), sum-all w b xs (a .1))
+
+-- of seven keys the greatest by pairs is the greatest one after the other
+pub below-is : (b k0 k1 k2 k3 k4 k5 k6 : ℕ)
+    → below b (k0 ∷ k1 ∷ k2 ∷ k3 ∷ k4 ∷ k5 ∷ k6 ∷ []) ≡ most b (k0 ∷ k1 ∷ k2 ∷ k3 ∷ k4 ∷ k5 ∷ k6 ∷ [])
+unfolding below
+below-is b k0 k1 k2 k3 k4 k5 k6 = simp (greater-is, by-threes, with-none)
 
 -- what is handed out are the numbers of those keys
 pub handed-is : (xs : List ℕ) → ((b : ℕ) → below b xs ≡ most b xs) → (n b : ℕ) → handed n b xs ≡ map numberOf (falling n b xs)

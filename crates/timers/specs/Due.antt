@@ -31,20 +31,20 @@ countOf keys =
     oneIf (getD keys 0 0) + oneIf (getD keys 1 0) + oneIf (getD keys 2 0) + oneIf (getD keys 3 0) + oneIf (getD keys 4 0)
     + oneIf (getD keys 5 0) + oneIf (getD keys 6 0)
 
--- the greater of two keys below a bound, where the first is below it
-unfoldable pub nearer : ℕ → ℕ → ℕ → ℕ
-nearer bound best key = cond (leb bound key) best (cond (ltb best key) key best)
+-- a key where it is below a bound, else 0
+unfoldable pub under : ℕ → ℕ → ℕ
+under bound key = cond (ltb key bound) key 0
+
+unfoldable pub greater : ℕ → ℕ → ℕ
+greater a b = cond (ltb a b) b a
 
 -- the greatest key below a bound, 0 where there is none
 unfoldable pub below : ℕ → List ℕ → ℕ
 below bound keys =
-    nearer bound
-    (nearer bound
-    (nearer bound
-    (nearer bound (nearer bound (nearer bound (nearer bound 0 (getD keys 6 0)) (getD keys 5 0)) (getD keys 4 0)) (getD keys 3 0))
-    (getD keys 2 0))
-    (getD keys 1 0))
-    (getD keys 0 0)
+    greater
+    (greater (greater (under bound (getD keys 0 0)) (under bound (getD keys 1 0)))
+    (greater (under bound (getD keys 2 0)) (under bound (getD keys 3 0))))
+    (greater (greater (under bound (getD keys 4 0)) (under bound (getD keys 5 0))) (under bound (getD keys 6 0)))
 
 -- the number of the timer that a key is of
 unfoldable pub numberOf : ℕ → ℕ

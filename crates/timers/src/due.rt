@@ -3,7 +3,7 @@ ghost use mathlib.Core.Path.{_≡_};
 ghost use mathlib.Core.List.{_++_};
 ghost use Prim.Native.Nat.{_≤_, _<_};
 ghost use lib.ListN.{length, drop};
-ghost use Rattle.timers.specs.Due.{keyOf, keysOf, oneIf, countOf, nearer, below, numberOf, handed, stays, staying};
+ghost use Rattle.timers.specs.Due.{keyOf, keysOf, oneIf, countOf, under, greater, below, numberOf, handed, stays, staying};
 use crate::wrap::forward;
 use crate::wrap::is_back;
 
@@ -58,27 +58,27 @@ pub fn count_of(keys: [u64; 7]) -> usize
         + one_if(keys[6])
 }
 
-// The greater of two keys below a bound, where the first is below it.
-fn nearer(bound: u64, best: u64, key: u64) -> u64
-    ensures { λ r. ⌜ r ≡ nearer bound best key ⌝ }
+// A key where it is below a bound, else 0.
+fn under(bound: u64, key: u64) -> u64
+    ensures { λ r. ⌜ r ≡ under bound key ⌝ }
 {
-    if bound <= key {
-        return best;
-    }
-    if best < key { key } else { best }
+    if key < bound { key } else { 0 }
 }
 
-// The greatest key below a bound, 0 where there is none.
+fn greater(a: u64, b: u64) -> u64
+    ensures { λ r. ⌜ r ≡ greater a b ⌝ }
+{
+    if a < b { b } else { a }
+}
+
+// The greatest key below a bound, 0 where there is none. By pairs, since a machine compares pairs side by side.
 fn below(bound: u64, keys: [u64; 7]) -> u64
     ensures { λ r. ⌜ r ≡ below bound keys ⌝ }
 {
-    let a = nearer(bound, 0, keys[6]);
-    let b = nearer(bound, a, keys[5]);
-    let c = nearer(bound, b, keys[4]);
-    let d = nearer(bound, c, keys[3]);
-    let e = nearer(bound, d, keys[2]);
-    let f = nearer(bound, e, keys[1]);
-    nearer(bound, f, keys[0])
+    let a = greater(under(bound, keys[0]), under(bound, keys[1]));
+    let b = greater(under(bound, keys[2]), under(bound, keys[3]));
+    let c = greater(under(bound, keys[4]), under(bound, keys[5]));
+    greater(greater(a, b), greater(c, under(bound, keys[6])))
 }
 
 // The number of the timer that a key is of.
@@ -102,6 +102,7 @@ pub fn hand_out(keys: [u64; 7], count: usize, due: &mut [u16])
     requires { ⌜ count ≤ length (now due) ⌝ }
     ensures { λ _. ⌜ now (due .exit) ≡ handed count 34359738368 keys ++ drop count (now (due .entry)) ⌝ }
 {
+    // 2^35, above every key.
     let mut bound: u64 = 34359738368;
     let mut i: usize = 0;
     while i < count {

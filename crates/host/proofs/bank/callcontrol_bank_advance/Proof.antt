@@ -21,12 +21,12 @@ add-result : tie.Need-add-result
 add-result c = omega (arith, count-small _ _ _ (c .before .before .before .before .before .advance .ensures))
 
 pack-bank-requires : tie.Need-pack-bank-requires
-pack-bank-requires c κs = 
+pack-bank-requires c κs =
     let g = c .before .before .before .before .before .before .before .before .before .before .before in
     bank-length _ (g .before .is-bank .ensures) (g .if1 .left)
 
 returns-2 : tie.Need-returns-2
-returns-2 c = 
+returns-2 c =
     let p = c .before .before in
     let n = p .before .before .before .before in
     let t = n .before .before .before .before in
@@ -37,7 +37,7 @@ returns-2 c =
     (n .number-of .ensures .0) refl (p .before .before .if2 .taken) (p .pack-bank .ensures)
 
 returns-3 : tie.Need-returns-3
-returns-3 c = 
+returns-3 c =
     let n = c .before .before in
     let t = n .before .before .before .before in
     let h = t .before .before in

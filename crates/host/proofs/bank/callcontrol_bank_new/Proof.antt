@@ -11,7 +11,7 @@ returns c = rw (ne-eqb _ _ (c .if1 .taken))
 
 returns-2 : tie.Need-returns-2
 unfolding bankMade
-returns-2 c = 
+returns-2 c =
     let p = c .before .before in
     let n = p .before .before in
     rw (eq-eqb _ _ (n .before .if1 .left), p .pack-bank .ensures, n .new .ensures)

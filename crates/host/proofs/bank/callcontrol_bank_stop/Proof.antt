@@ -14,12 +14,12 @@ held-bank-requires : tie.Need-held-bank-requires
 held-bank-requires c κs = bank-length _ (c .before .before .is-bank .ensures) (c .before .if1 .left)
 
 pack-bank-requires : tie.Need-pack-bank-requires
-pack-bank-requires c κs = 
+pack-bank-requires c κs =
     let g = c .before .before .before .before .before .before .before in
     bank-length _ (g .before .is-bank .ensures) (g .if1 .left)
 
 returns-2 : tie.Need-returns-2
-returns-2 c = 
+returns-2 c =
     let p = c .before .before in
     let n = p .before .before .before in
     let t = n .before .before in
@@ -30,7 +30,7 @@ returns-2 c =
     (p .before .before .if2 .taken) (p .pack-bank .ensures)
 
 returns-3 : tie.Need-returns-3
-returns-3 c = 
+returns-3 c =
     let n = c .before in
     let t = n .before .before in
     let h = t .before in

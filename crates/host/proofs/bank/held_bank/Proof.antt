@@ -6,7 +6,7 @@ use Rattle.host.proofs.bank.held_bank.Tie as tie
 
 returns : tie.Need-returns
 unfolding heldBank
-returns c = 
+returns c =
     let l = c .before .before .before .before .before .before .before in
     rw (l .long-at8 .ensures, l .before .long-at7 .ensures, l .before .before .long-at6 .ensures, l .before .before .before .long-at5 .ensures, l .before .before .before .before .long-at4 .ensures, l .before .before .before .before .before .long-at3 .ensures, l .before .before .before .before .before .before .long-at2 .ensures, l .before .before .before .before .before .before .before .long-at .ensures)
 
