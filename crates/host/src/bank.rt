@@ -1,29 +1,16 @@
 // A bank of timers as a host's 39 bytes, and its four entries. Each returns answer * 2^24 + count.
 ghost use mathlib.Core.Path.{_≡_};
 ghost use mathlib.Core.List.{[]};
-ghost use Prim.Native.Nat.{_+_, _≤_, _<_};
+ghost use Prim.Native.Nat.{_+_, _≤_};
 ghost use lib.ListN.{length};
 ghost use lib.Seq.{sets};
 ghost use Rattle.records.specs.Bytes.{bytes};
-ghost use Rattle.timers.specs.Bank.{answerNumber, stopped, started, advanced};
+ghost use Rattle.timers.specs.Bank.{stopped, started, advanced};
 ghost use Rattle.host.specs.Bank.{flags, packedBank, isBank, heldBank, BankLeft, bankMade, onBank};
 use crate::packed::flag;
 use crate::packed::long_at;
-use timers::bank::Answer;
 use timers::bank::Bank;
-
-fn number_of(answer: Answer) -> u32
-    ensures { λ r. ⌜ r ≡ answerNumber answer ⌝ }
-    ensures { λ r. ⌜ r < 34 ⌝ }
-{
-    match answer {
-        Answer::Taken => 0,
-        Answer::TimerUnknown => 30,
-        Answer::BadLength => 31,
-        Answer::ReadingEarlier => 32,
-        Answer::ListShort => 33,
-    }
-}
+use timers::bank::answer_number;
 
 // Whether some bytes are a bank.
 fn is_bank(s: &[u8]) -> bool
@@ -148,7 +135,7 @@ pub extern "C" fn callcontrol_bank_stop(bank: &mut [u8], timer: u16) -> u32
     let ordered = held_bank(bank).stop(timer);
     let answer = ordered.answer;
     let next = ordered.bank;
-    let number = number_of(answer);
+    let number = answer_number(answer);
     let result = number * 16777216;
     if number == 0 {
         pack_bank(next, bank);
@@ -172,7 +159,7 @@ pub extern "C" fn callcontrol_bank_start(
     let ordered = held_bank(bank).start(table, timer, code);
     let answer = ordered.answer;
     let next = ordered.bank;
-    let number = number_of(answer);
+    let number = answer_number(answer);
     let result = number * 16777216;
     if number == 0 {
         pack_bank(next, bank);
@@ -191,7 +178,7 @@ pub extern "C" fn callcontrol_bank_advance(bank: &mut [u8], reading: u32, due: &
     let advanced = held_bank(bank).advance(reading, due);
     let answer = advanced.answer;
     let next = advanced.bank;
-    let number = number_of(answer);
+    let number = answer_number(answer);
     let result = number * 16777216 + advanced.count as u32;
     if number == 0 {
         pack_bank(next, bank);

@@ -8,7 +8,7 @@ ghost use Rattle.records.specs.Events.{events, asEventRead};
 ghost use Rattle.records.specs.Messages.{messages, asMessageRead};
 ghost use Rattle.host.specs.Entries.{Left, freshened, hostStep, readWord, wroteWord, checked, copied};
 
-pub mod bank;
+mod bank;
 mod packed;
 mod serial;
 

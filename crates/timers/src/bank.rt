@@ -1,6 +1,7 @@
 // The bank of seven timers: STOP, START and readings of the host's counter.
 ghost use mathlib.Core.Path.{_≡_};
-ghost use Rattle.timers.specs.Bank.{newBank, placeOf, entryOf, lengthIn, stopped, started, advanced, asOrdered, asAdvanced};
+ghost use Prim.Native.Nat.{_<_};
+ghost use Rattle.timers.specs.Bank.{answerNumber, newBank, placeOf, entryOf, lengthIn, stopped, started, advanced, asOrdered, asAdvanced};
 use crate::due::count_of;
 use crate::due::hand_out;
 use crate::due::keys_of;
@@ -21,6 +22,19 @@ pub enum Answer {
     ReadingEarlier,
     // 33: the lent list is shorter than the number due.
     ListShort,
+}
+
+pub fn answer_number(answer: Answer) -> u32
+    ensures { λ r. ⌜ r ≡ answerNumber answer ⌝ }
+    ensures { λ r. ⌜ r < 34 ⌝ }
+{
+    match answer {
+        Answer::Taken => 0,
+        Answer::TimerUnknown => 30,
+        Answer::BadLength => 31,
+        Answer::ReadingEarlier => 32,
+        Answer::ListShort => 33,
+    }
 }
 
 pub struct Bank {

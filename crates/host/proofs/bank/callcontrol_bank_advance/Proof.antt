@@ -34,7 +34,7 @@ returns-2 c =
     let g = h .before .before in
     let a = g .before .before .before .before .before .args in
     packs _ (now (a .due)) (λ b. advanced b (a .reading) (now (a .due))) (g .before .is-bank .ensures) (g .if1 .left) (h .held-bank .ensures) (t .advance .ensures)
-    (n .number-of .ensures .0) refl (p .before .before .if2 .taken) (p .pack-bank .ensures)
+    (n .answer-number .ensures .0) refl (p .before .before .if2 .taken) (p .pack-bank .ensures)
 
 returns-3 : tie.Need-returns-3
 returns-3 c =
@@ -44,7 +44,7 @@ returns-3 c =
     let g = h .before .before in
     let a = g .before .before .before .before .before .args in
     leaves _ (now (a .due)) (λ b. advanced b (a .reading) (now (a .due))) (g .before .is-bank .ensures) (g .if1 .left) (h .held-bank .ensures) (t .advance .ensures)
-    (n .number-of .ensures .0) refl (c .if2 .left)
+    (n .answer-number .ensures .0) refl (c .if2 .left)
 
 pub callcontrol-bank-advance-spec : {M : Type 1} → statement M
 callcontrol-bank-advance-spec =

@@ -26,7 +26,7 @@ returns-2 c =
     let h = t .before in
     let g = h .before .before in
     let a = g .before .before .before .before .args in
-    packs _ [] (λ b. stopped b (a .timer)) (g .before .is-bank .ensures) (g .if1 .left) (h .held-bank .ensures) (t .stop .ensures) (n .number-of .ensures .0) (omega arith)
+    packs _ [] (λ b. stopped b (a .timer)) (g .before .is-bank .ensures) (g .if1 .left) (h .held-bank .ensures) (t .stop .ensures) (n .answer-number .ensures .0) (omega arith)
     (p .before .before .if2 .taken) (p .pack-bank .ensures)
 
 returns-3 : tie.Need-returns-3
@@ -36,7 +36,7 @@ returns-3 c =
     let h = t .before in
     let g = h .before .before in
     let a = g .before .before .before .before .args in
-    leaves _ [] (λ b. stopped b (a .timer)) (g .before .is-bank .ensures) (g .if1 .left) (h .held-bank .ensures) (t .stop .ensures) (n .number-of .ensures .0) (omega arith) (c .if2 .left)
+    leaves _ [] (λ b. stopped b (a .timer)) (g .before .is-bank .ensures) (g .if1 .left) (h .held-bank .ensures) (t .stop .ensures) (n .answer-number .ensures .0) (omega arith) (c .if2 .left)
 
 pub callcontrol-bank-stop-spec : {M : Type 1} → statement M
 callcontrol-bank-stop-spec =
