@@ -52,7 +52,6 @@ static void make_islands(void)
 
 static uint32_t call(unsigned function, uint32_t number, uint8_t *const at[], const size_t len[])
 {
-    (void)number; /* the functions below take slices alone */
     switch (function) {
     case 0:
         return callcontrol_fresh(at[RECORD], len[RECORD]);
@@ -71,6 +70,16 @@ static uint32_t call(unsigned function, uint32_t number, uint8_t *const at[], co
     case 7:
         return callcontrol_pieces_next(at[RECORD], len[RECORD], at[OUT], len[OUT], at[INPUT],
                                        len[INPUT]);
+    case 8:
+        return callcontrol_bank_new(at[RECORD], len[RECORD], number);
+    case 9:
+        return callcontrol_bank_stop(at[RECORD], len[RECORD], (uint16_t)number);
+    case 10:
+        return callcontrol_bank_start(at[RECORD], len[RECORD], (const uint32_t *)(void *)at[INPUT],
+                                      len[INPUT] / 4, (uint16_t)number, (uint8_t)(number >> 16));
+    case 11:
+        return callcontrol_bank_advance(at[RECORD], len[RECORD], number,
+                                        (uint16_t *)(void *)at[OUT], len[OUT] / 2);
     }
     fail("no such function");
     return 0;

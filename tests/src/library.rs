@@ -4,6 +4,8 @@
 //! the functions are called directly. Elsewhere the same functions go over a bridge: a small
 //! program for the library's machine, run by an emulator, that makes the calls.
 
+#[cfg(not(bridged))]
+pub mod bank;
 #[cfg(bridged)]
 mod bridge;
 #[cfg(not(bridged))]

@@ -16,6 +16,12 @@ pub enum Function {
     // Reader, carry as the buffer, piece as the input.
     PiecesFresh = 6,
     PiecesNext = 7,
+    // Bank, table as the input, list as the buffer; beside them a reading, a timer, or a timer and,
+    // above its 16 bits, a code.
+    BankNew = 8,
+    BankStop = 9,
+    BankStart = 10,
+    BankAdvance = 11,
 }
 
 impl Function {
@@ -28,6 +34,10 @@ impl Function {
         Function::CopyMessage,
         Function::PiecesFresh,
         Function::PiecesNext,
+        Function::BankNew,
+        Function::BankStop,
+        Function::BankStart,
+        Function::BankAdvance,
     ];
 
     /// Splits a result of this function into answer and what is counted.
@@ -35,6 +45,10 @@ impl Function {
         match self {
             // Where a record was found and its size stand above the bytes used.
             Function::PiecesFresh | Function::PiecesNext => (word >> 24, word & 0xFF_FFFF),
+            Function::BankNew
+            | Function::BankStop
+            | Function::BankStart
+            | Function::BankAdvance => (word >> 24, word & 0xFF_FFFF),
             _ => crate::library::split(word),
         }
     }
@@ -47,7 +61,10 @@ impl Function {
 
     /// What the address of each slice is a multiple of.
     fn alignment(self) -> usize {
-        1
+        match self {
+            Function::BankStart | Function::BankAdvance => 4,
+            _ => 1,
+        }
     }
 }
 

@@ -6,6 +6,7 @@
 //! Only `core` is used and nothing is allocated: the same files serve as the baseline of the
 //! benchmark and of the comparison of sizes.
 
+pub mod bank;
 pub mod boundary;
 pub mod call;
 pub mod history;

@@ -1,5 +1,6 @@
 //! The library linked into this process.
 
+use super::bank;
 use crate::request::{self, Function, Place, BLOCK, INPUT, OUT, RECORD};
 use std::ffi::c_void;
 
@@ -106,7 +107,7 @@ pub fn perform(batch: &[u8], done: &mut Vec<u8>) {
     }
 }
 
-fn call(function: Function, _number: u32, [record, input, out]: [&mut [u8]; 3]) -> u32 {
+fn call(function: Function, number: u32, [record, input, out]: [&mut [u8]; 3]) -> u32 {
     match function {
         Function::Fresh => fresh(record),
         Function::Step => step(record, input, out),
@@ -116,6 +117,12 @@ fn call(function: Function, _number: u32, [record, input, out]: [&mut [u8]; 3]) 
         Function::CopyMessage => copy_message(input, out),
         Function::PiecesFresh => super::pieces::fresh(record),
         Function::PiecesNext => super::pieces::next(record, out, input),
+        Function::BankNew => bank::new(record, number),
+        Function::BankStop => bank::stop(record, number as u16),
+        Function::BankStart => {
+            bank::start(record, bank::numbers(input), number as u16, (number >> 16) as u8)
+        }
+        Function::BankAdvance => bank::advance(record, number, bank::numbers(out)),
     }
 }
 

@@ -1,6 +1,8 @@
 //! Measures the library: time and stack beside the account where it is linked into the same process,
 //! and the instructions that it takes.
 
+#[cfg(not(bridged))]
+mod bank;
 mod instructions;
 #[cfg(not(bridged))]
 mod measure;
@@ -15,5 +17,6 @@ fn main() {
     #[cfg(not(bridged))]
     {
         measure::main();
+        bank::main();
     }
 }
