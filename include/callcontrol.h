@@ -8,7 +8,9 @@
  * any number of calls can be run side by side. Bytes that may be written must not overlap other
  * bytes handed to the same function. Pointers must not be null, also where the length is 0.
  *
- * Every function returns answer * 65536 + count of bytes written.
+ * Every function returns answer * 2^24 + place * 2^16 + count of bytes written. With answer 4 of a
+ * reader the place says what is wrong: the offset of the first bad field from the first byte of the
+ * record, or 2 where the size of the body is wrong. With every other answer it is 0.
  */
 #ifndef CALLCONTROL_H
 #define CALLCONTROL_H
@@ -232,10 +234,10 @@ uint32_t callcontrol_step(uint8_t *record, size_t record_len,
                           const uint8_t *event, size_t event_len,
                           uint8_t *out, size_t out_len);
 
-/* Reads one event record: answer 0, 2, 3 or 4, count 0. */
+/* Reads one event record: answer 0, 2, 3 or 4 with its place, count 0. */
 uint32_t callcontrol_check_event(const uint8_t *bytes, size_t len);
 
-/* Reads one message record: answer 0, 2, 3 or 4, count 0. */
+/* Reads one message record: answer 0, 2, 3 or 4 with its place, count 0. */
 uint32_t callcontrol_check_message(const uint8_t *bytes, size_t len);
 
 /* Reads one event record and writes it back to out: answer 0 with its length, or 2, 3, 4 or 7. */
@@ -247,7 +249,13 @@ uint32_t callcontrol_copy_message(const uint8_t *bytes, size_t len, uint8_t *out
 /* The answer in a result, one of enum callcontrol_answer. */
 static inline unsigned int callcontrol_answer_of(uint32_t result)
 {
-    return (unsigned int)(result >> 16);
+    return (unsigned int)(result >> 24);
+}
+
+/* The place in a result: where an answer 4 found the record wrong, 0 with every other answer. */
+static inline unsigned int callcontrol_place_of(uint32_t result)
+{
+    return (unsigned int)(result >> 16 & 0xFFu);
 }
 
 /* The count of bytes written in a result. */

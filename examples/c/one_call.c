@@ -147,8 +147,9 @@ static void play(uint8_t *call, unsigned int number, const unsigned long *values
 
     printf("\n");
     print_record(event);
-    printf("  answer %u, %zu bytes: %s, path %s, plane %u (%s)\n",
-           callcontrol_answer_of(result), callcontrol_count_of(result),
+    printf("  answer %u, place %u, %zu bytes: %s, path %s, plane %u (%s)\n",
+           callcontrol_answer_of(result), callcontrol_place_of(result),
+           callcontrol_count_of(result),
            states[call[CALLCONTROL_AT_STATE]], paths[call[CALLCONTROL_AT_PATH]],
            (unsigned int)call[CALLCONTROL_AT_PLANE], planes[call[CALLCONTROL_AT_PLANE]]);
 
@@ -182,6 +183,9 @@ int main(void)
     play(call, CALLCONTROL_D_ALERT, VALUES(21));
     play(call, CALLCONTROL_D_CONNECT,
          VALUES(21, CALLCONTROL_QUEUED, CALLCONTROL_SIMPLEX, 3));
+
+    /* There is no grant 4: the byte at 6 is wrong. */
+    play(call, CALLCONTROL_D_TX_GRANTED, VALUES(21, 4));
 
     /* A grant of another call is not ours. */
     play(call, CALLCONTROL_D_TX_GRANTED, VALUES(22, CALLCONTROL_GRANTED));

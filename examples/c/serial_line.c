@@ -29,10 +29,10 @@ struct line {
     uint8_t carry[CALLCONTROL_CARRY_SIZE];
 };
 
-static void print_line(unsigned int answer, const uint8_t *call, size_t bytes)
+static void print_line(unsigned int answer, const uint8_t *call, size_t bytes, unsigned int place)
 {
-    printf("%u %s %u %zu\n", answer, states[call[CALLCONTROL_AT_STATE]],
-           (unsigned int)call[CALLCONTROL_AT_PLANE], bytes);
+    printf("%u %s %u %zu %u\n", answer, states[call[CALLCONTROL_AT_STATE]],
+           (unsigned int)call[CALLCONTROL_AT_PLANE], bytes, place);
 }
 
 /* One record: an event for the call. A real host would carry out the messages in out here. */
@@ -40,7 +40,8 @@ static void take(uint8_t *call, const uint8_t *record, size_t len)
 {
     uint8_t out[CALLCONTROL_RUN_MAX];
     uint32_t result = callcontrol_step(call, CALLCONTROL_RECORD_SIZE, record, len, out, sizeof out);
-    print_line(callcontrol_answer_of(result), call, callcontrol_count_of(result));
+    print_line(callcontrol_answer_of(result), call, callcontrol_count_of(result),
+               callcontrol_place_of(result));
 }
 
 /*
@@ -79,7 +80,7 @@ int main(int argc, char **argv)
         || callcontrol_pieces_fresh(line.reader, sizeof line.reader) != CALLCONTROL_READER_SIZE)
         return EXIT_FAILURE;
 
-    printf("answer state plane bytes\n");
+    printf("answer state plane bytes place\n");
     while (!feof(stdin)) {
         size_t size = next_size(&seed);
         size_t len = fread(piece, 1, size, stdin);
@@ -87,11 +88,11 @@ int main(int argc, char **argv)
             return EXIT_FAILURE;
         if (take_piece(&line, piece, len) != CALLCONTROL_TAKEN) {
             /* An impossible length: where the next record begins can't be known any more. */
-            print_line(CALLCONTROL_BAD_LENGTH, line.call, 0);
+            print_line(CALLCONTROL_BAD_LENGTH, line.call, 0, 0);
             return EXIT_SUCCESS;
         }
     }
     if (line.reader[0] != 0) /* the input ended within a record */
-        print_line(CALLCONTROL_BAD_LENGTH, line.call, 0);
+        print_line(CALLCONTROL_BAD_LENGTH, line.call, 0, 0);
     return EXIT_SUCCESS;
 }

@@ -52,6 +52,7 @@ int main(void)
     uint8_t out[CALLCONTROL_STEP_MAX];
     uint8_t copy[CALLCONTROL_MESSAGE_MAX];
     const uint8_t event[] = {10, 0, 0x01, 0x01, 7, 0, 0, 0, 0, 1}; /* SETUP request */
+    const uint8_t wrong[] = {10, 0, 0x01, 0x01, 7, 0, 0, 0, 2, 1}; /* d, at 8, is 2 */
     uint32_t result = callcontrol_fresh(call, sizeof call);
 
     if (callcontrol_answer_of(result) != CALLCONTROL_TAKEN
@@ -72,7 +73,11 @@ int main(void)
     if (callcontrol_copy_message(out, out[0], copy, sizeof copy) != out[0])
         return 7;
     result = callcontrol_step(call, sizeof call, event, sizeof event, out, sizeof out);
-    if (callcontrol_answer_of(result) != CALLCONTROL_NO_ROW)
+    if (callcontrol_answer_of(result) != CALLCONTROL_NO_ROW || callcontrol_place_of(result) != 0)
         return 8;
+    result = callcontrol_step(call, sizeof call, wrong, sizeof wrong, out, sizeof out);
+    if (callcontrol_answer_of(result) != CALLCONTROL_BAD_BODY || callcontrol_place_of(result) != 8
+        || callcontrol_count_of(result) != 0)
+        return 9;
     return reads_pieces();
 }

@@ -1,6 +1,7 @@
 //! Histories kept as files: what goes in as hex with comments, what must be printed as lines.
 
 use crate::account::State;
+use crate::library;
 use std::fs;
 use std::path::PathBuf;
 
@@ -56,10 +57,11 @@ pub fn trace(
     mut record: [u8; 21],
     step: impl Fn(&mut [u8], &[u8], &mut [u8]) -> u32,
 ) -> String {
-    let mut lines = String::from("answer state plane bytes\n");
+    let mut lines = String::from("answer state plane bytes place\n");
     let mut line = |word: u32, record: &[u8; 21]| {
         let state = State::from_number(record[0]).expect("a state");
-        lines += &format!("{} {} {} {}\n", word >> 16, state.name(), record[11], word & 0xFFFF);
+        let ((answer, count), place) = (library::split(word), library::place(word));
+        lines += &format!("{answer} {} {} {count} {place}\n", state.name(), record[11]);
     };
     while !input.is_empty() {
         let len = match *input {
@@ -67,7 +69,7 @@ pub fn trace(
             _ => 0,
         };
         if len < 4 || len > input.len() {
-            line(2 << 16, &record);
+            line(2 << 24, &record);
             break;
         }
         let (event, rest) = input.split_at(len);

@@ -32,5 +32,10 @@ pub const ARCHIVE: &str = env!("CALLCONTROL_ARCHIVE");
 
 /// Splits a result into answer and count of bytes written.
 pub fn split(word: u32) -> (u32, u32) {
-    (word >> 16, word & 0xFFFF)
+    (word >> 24, word & 0xFFFF)
+}
+
+/// The place in a result: where the bad field was, with answer 4.
+pub fn place(word: u32) -> u32 {
+    word >> 16 & 0xFF
 }

@@ -270,7 +270,8 @@ pub fn difference(before: &[u8], done: &[u8], said: &[u8]) -> String {
     let result = |frame| {
         let (answer, count) = function(frame).split(word(frame));
         format!(
-            "answer {answer} count {count}\n    record {}\n    buffer {}",
+            "answer {answer} place {} count {count}\n    record {}\n    buffer {}",
+            crate::library::place(word(frame)),
             hex(slice(frame, RECORD)),
             hex(slice(frame, OUT))
         )

@@ -25,6 +25,7 @@ pub struct Queue {
 pub struct Said<'a> {
     pub word: u32,
     pub answer: u32,
+    pub place: u32,
     pub count: usize,
     pub record: &'a [u8],
     pub out: &'a [u8],
@@ -73,6 +74,10 @@ impl Queue {
         let word = expected(record, input, out);
         request::set_word(said, word);
         let (answer, count) = request.function.split(word);
+        assert!(
+            matches!(answer, 0 | 4) || library::place(word) == 0,
+            "a refusal but 4 has no place"
+        );
         // Said by the paper directly, whatever is expected.
         assert!(
             answer == 0
@@ -89,6 +94,7 @@ impl Queue {
         Said {
             word,
             answer,
+            place: library::place(word),
             count: count as usize,
             record: request::slice(said, RECORD),
             out: request::slice(said, OUT),

@@ -98,17 +98,17 @@ fn records_of_65535_bytes() {
     input.extend([9, 0, 0x03, 0x02, 21, 0, 0, 0, 3]); // D-CONNECT
     assert_eq!(
         calltrace(&input),
-        "answer state plane bytes\n\
-         0 MO-CALL-SETUP 4 17\n\
-         4 MO-CALL-SETUP 4 0\n\
-         0 MO-CALL-SETUP 4 0\n\
-         3 MO-CALL-SETUP 4 0\n\
-         0 CALL-ACTIVE 1 32\n"
+        "answer state plane bytes place\n\
+         0 MO-CALL-SETUP 4 17 0\n\
+         4 MO-CALL-SETUP 4 0 2\n\
+         0 MO-CALL-SETUP 4 0 0\n\
+         3 MO-CALL-SETUP 4 0 0\n\
+         0 CALL-ACTIVE 1 32 0\n"
     );
     // The same, cut one byte before its end.
     let mut input = long([0x03, 0x03]);
     input.pop();
-    assert_eq!(calltrace(&input), "answer state plane bytes\n2 IDLE 4 0\n");
+    assert_eq!(calltrace(&input), "answer state plane bytes place\n2 IDLE 4 0 0\n");
 }
 
 /// Two thousand calls one after another: the program must not run out of what it holds them in.
@@ -140,7 +140,7 @@ fn an_input_that_cannot_be_read() {
     let mut command = programs::calltrace();
     command.stdin(File::open(root()).expect("a folder, which is no input"));
     let ran = run_within(command, None, &LIMITS);
-    assert_eq!(ran.stdout, "answer state plane bytes\n");
+    assert_eq!(ran.stdout, "answer state plane bytes place\n");
     assert_eq!(ran.stderr, "calltrace: standard input cannot be read\n");
 }
 

@@ -1,8 +1,10 @@
 //! Readers and writers: every record in range is read and written back as it was, and every
-//! length, kind, body size or field out of range gives its answer and changes no byte.
+//! length, kind, body size or field out of range gives its answer, with 4 its place, and changes no
+//! byte.
 
 use callcontrol_tests::account::boundary;
 use callcontrol_tests::generate::{self, Bytes, Random};
+use callcontrol_tests::library;
 use callcontrol_tests::request::{Function, Request};
 use callcontrol_tests::sidebyside::{tell, Queue};
 
@@ -69,6 +71,16 @@ impl Letter {
         }
     }
 
+    /// Where in the letter the first bad field begins.
+    fn bad_at(self, value: u64) -> Option<usize> {
+        match self {
+            _ if self.allows(value) => None,
+            // n is good, so it is o that does not suit it.
+            NO if TIMERS.contains(&(value & 0xFFFF)) => Some(2),
+            _ => Some(0),
+        }
+    }
+
     /// Values at and around every edge of the range, in and out of it.
     fn edges(self) -> Vec<u64> {
         match self {
@@ -124,6 +136,35 @@ const MESSAGES: &[(u16, &[Letter])] = &[
     (0x0706, &[C]), (0x0707, &[]), (0x0708, &[X]), (0x0709, &[Bit]),
 ];
 
+/// What the readers give for a body of the right size: answer and place of the first bad field.
+fn expected(letters: &[Letter], values: &[u64]) -> Expected {
+    let mut at = 4;
+    for (letter, &value) in letters.iter().zip(values) {
+        if let Some(within) = letter.bad_at(value) {
+            return bad(at + within);
+        }
+        at += letter.size();
+    }
+    TAKEN
+}
+
+/// Answer and place.
+type Expected = (u32, usize);
+
+const TAKEN: Expected = (0, 0);
+const LENGTH: Expected = (2, 0);
+const KIND: Expected = (3, 0);
+/// A body of a wrong size is bad at 2.
+const SIZE: Expected = (4, 2);
+
+fn bad(place: usize) -> Expected {
+    (4, place)
+}
+
+fn word((answer, place): Expected) -> u32 {
+    answer << 24 | (place as u32) << 16
+}
+
 /// One of the two readers with its writer, library and account.
 struct Side {
     name: &'static str,
@@ -155,21 +196,21 @@ const SIDES: [Side; 2] = [
 
 impl Side {
     /// Hands `bytes` to the library's reader and, with every length of buffer that matters, to
-    /// its writer, and compares with `answer` and with the account.
-    fn expect(&self, queue: &mut Queue, bytes: &[u8], answer: u32) {
+    /// its writer, and compares with `expected` and with the account.
+    fn expect(&self, queue: &mut Queue, bytes: &[u8], expected: Expected) {
         let filler = 0xC3u8.wrapping_add(bytes.len() as u8);
-        self.expect_of_reader(queue, bytes, answer);
-        let longest = if answer == 0 { bytes.len() + 2 } else { 12 };
+        self.expect_of_reader(queue, bytes, expected);
+        let longest = if expected == TAKEN { bytes.len() + 2 } else { 12 };
         for out_len in 0..=longest {
             queue.check(&Request::copy(self.copy, bytes, out_len, filler), |_, bytes, out| {
                 let mut said = out.to_vec();
-                let word = match answer {
-                    0 if out_len >= bytes.len() => {
+                let word = match expected {
+                    TAKEN if out_len >= bytes.len() => {
                         out[..bytes.len()].copy_from_slice(bytes);
                         bytes.len() as u32
                     }
-                    0 => 7 << 16,
-                    refusal => refusal << 16,
+                    TAKEN => word((7, 0)),
+                    refusal => word(refusal),
                 };
                 assert_eq!((self.account_copy)(bytes, &mut said), word, "account's {}", self.name);
                 assert_eq!(said, out, "account's copy of {}", self.name);
@@ -178,11 +219,11 @@ impl Side {
         }
     }
 
-    fn expect_of_reader(&self, queue: &mut Queue, bytes: &[u8], answer: u32) {
+    fn expect_of_reader(&self, queue: &mut Queue, bytes: &[u8], expected: Expected) {
         let filler = 0xC3u8.wrapping_add(bytes.len() as u8);
         queue.check(&Request::check(self.check, bytes, filler), |_, bytes, _| {
-            assert_eq!((self.account_check)(bytes), answer << 16, "account's {}", self.name);
-            answer << 16
+            assert_eq!((self.account_check)(bytes), word(expected), "account's {}", self.name);
+            word(expected)
         });
     }
 }
@@ -235,13 +276,8 @@ fn every_combination_of_edge_values_is_read_exactly_when_each_is_in_range() {
             let mut at = vec![0; letters.len()];
             loop {
                 let values: Vec<u64> = edges.iter().zip(&at).map(|(edge, &at)| edge[at]).collect();
-                let all_in =
-                    letters.iter().zip(&values).all(|(letter, &value)| letter.allows(value));
-                side.expect(
-                    &mut queue,
-                    &record(kind, letters, &values),
-                    if all_in { 0 } else { 4 },
-                );
+                let expected = expected(letters, &values);
+                side.expect(&mut queue, &record(kind, letters, &values), expected);
                 tried += 1;
                 let Some(place) = (0..at.len()).find(|&place| at[place] + 1 < edges[place].len())
                 else {
@@ -267,12 +303,93 @@ fn each_field_alone_over_all_its_edges() {
                 for value in letter.edges() {
                     let mut values = others.clone();
                     values[place] = value;
-                    let answer = if letter.allows(value) { 0 } else { 4 };
-                    side.expect(&mut queue, &record(kind, letters, &values), answer);
+                    let expected = expected(letters, &values);
+                    assert_eq!(expected == TAKEN, letter.allows(value));
+                    side.expect(&mut queue, &record(kind, letters, &values), expected);
                 }
             }
         }
     }
+    queue.finish();
+}
+
+/// Two fields at every edge of their ranges, all others in range: the place is that of the first.
+#[test]
+fn each_pair_of_fields_over_all_their_edges() {
+    let mut queue = Queue::new();
+    let mut random = Random::new(0x9A145);
+    let (mut pairs, mut both_bad) = (0u64, 0u64);
+    for side in &SIDES {
+        for &(kind, letters) in side.kinds {
+            for second in 0..letters.len() {
+                for first in 0..second {
+                    let others = some_values(letters, &mut random);
+                    for one in letters[first].edges() {
+                        for other in letters[second].edges() {
+                            let mut values = others.clone();
+                            (values[first], values[second]) = (one, other);
+                            let expected = expected(letters, &values);
+                            side.expect_of_reader(
+                                &mut queue,
+                                &record(kind, letters, &values),
+                                expected,
+                            );
+                            let place: usize =
+                                letters[..first].iter().map(|letter| letter.size()).sum();
+                            if !letters[first].allows(one) && !letters[second].allows(other) {
+                                assert_eq!(expected, bad(4 + place), "the first of the two");
+                                both_bad += 1;
+                            }
+                            pairs += 1;
+                        }
+                    }
+                }
+            }
+        }
+    }
+    queue.finish();
+    tell(&format!("{pairs} pairs of fields, both bad in {both_bad}"));
+    assert!(both_bad > 0);
+}
+
+/// Written out by hand, with the offsets counted in the bytes.
+#[test]
+fn places_counted_by_hand() {
+    let mut queue = Queue::new();
+    let [events, messages] = &SIDES;
+    let mut event = |bytes: &[u8], place| events.expect(&mut queue, bytes, bad(place));
+    // SETUP request a d q: a at 4, d at 8, q at 9.
+    event(&[10, 0, 0x01, 0x01, 0, 0, 0, 0, 2, 2], 4);
+    event(&[10, 0, 0x01, 0x01, 7, 0, 0, 0, 2, 2], 8);
+    event(&[10, 0, 0x01, 0x01, 7, 0, 0, 0, 1, 2], 9);
+    // D-CONNECT i g d o: i at 4, g at 6, d at 7, o at 8.
+    event(&[9, 0, 0x03, 0x02, 0, 0x40, 4, 2, 16], 4);
+    event(&[9, 0, 0x03, 0x02, 1, 0, 4, 2, 16], 6);
+    event(&[9, 0, 0x03, 0x02, 1, 0, 3, 2, 16], 7);
+    event(&[9, 0, 0x03, 0x02, 1, 0, 3, 1, 16], 8);
+    // D-SETUP i a d: i at 4, a at 6, d at 10.
+    event(&[11, 0, 0x05, 0x02, 0, 0, 0, 0, 0, 1, 2], 4);
+    event(&[11, 0, 0x05, 0x02, 1, 0, 0, 0, 0, 1, 2], 6);
+    event(&[11, 0, 0x05, 0x02, 1, 0, 0, 0, 0, 0, 2], 10);
+    // D-INFO i r o d: o at 7, where 16 is absent and 17 is bad.
+    event(&[9, 0, 0x06, 0x02, 1, 0, 2, 17, 2], 6);
+    event(&[9, 0, 0x06, 0x02, 1, 0, 1, 17, 2], 7);
+    event(&[9, 0, 0x06, 0x02, 1, 0, 1, 16, 2], 8);
+    event(&[6, 0, 0x01, 0x04, 0x31, 0x01], 4);
+    // The size comes before the fields.
+    event(&[9, 0, 0x01, 0x01, 0, 0, 0, 0, 2], 2);
+    event(&[5, 0, 0x02, 0x01, 0xFF], 2);
+    event(&[4, 0, 0x01, 0x02], 2);
+    let mut message = |bytes: &[u8], place| messages.expect(&mut queue, bytes, bad(place));
+    // START n o: n at 4; o at 6, also where it does not suit its n.
+    message(&[7, 0, 0x02, 0x06, 0x31, 0x01, 1], 4);
+    message(&[7, 0, 0x02, 0x06, 0x2D, 0x01, 1], 6);
+    message(&[7, 0, 0x02, 0x06, 0x36, 0x01, 16], 6);
+    // U-DISCONNECT i c, U-CALL RESTORE i a q.
+    message(&[7, 0, 0x03, 0x05, 0, 0, 0], 6);
+    message(&[11, 0, 0x08, 0x05, 1, 0, 0, 0, 0, 1, 2], 6);
+    message(&[11, 0, 0x08, 0x05, 1, 0, 0, 0, 0, 0, 2], 10);
+    message(&[4, 0, 0x03, 0x06], 2);
     queue.finish();
 }
 
@@ -283,12 +400,12 @@ fn random_records_in_range_come_back_as_they_were() {
     for _ in 0..200_000 {
         let i = if random.one_in(8) { 0 } else { generate::identifier(&mut random) };
         let event = Bytes::of_event(generate::event(&mut random, i));
-        SIDES[0].expect(&mut queue, event.as_slice(), 0);
+        SIDES[0].expect(&mut queue, event.as_slice(), TAKEN);
         let message = Bytes::of_message(generate::message(&mut random));
-        SIDES[1].expect(&mut queue, message.as_slice(), 0);
+        SIDES[1].expect(&mut queue, message.as_slice(), TAKEN);
         // Neither reader takes the other's records.
-        SIDES[0].expect(&mut queue, message.as_slice(), 3);
-        SIDES[1].expect(&mut queue, event.as_slice(), 3);
+        SIDES[0].expect(&mut queue, message.as_slice(), KIND);
+        SIDES[1].expect(&mut queue, event.as_slice(), KIND);
     }
     queue.finish();
 }
@@ -303,9 +420,14 @@ fn damaged_records_get_the_accounts_answer() {
         let event = generate::event(&mut random, i);
         let bytes = generate::damaged_event(&mut random, event);
         for side in &SIDES {
-            let answer = (side.account_check)(bytes.as_slice()) >> 16;
+            let word = (side.account_check)(bytes.as_slice());
+            let (answer, _) = library::split(word);
             answers[answer as usize] += 1;
-            side.expect_of_reader(&mut queue, bytes.as_slice(), answer);
+            side.expect_of_reader(
+                &mut queue,
+                bytes.as_slice(),
+                (answer, library::place(word) as usize),
+            );
         }
     }
     queue.finish();
@@ -324,29 +446,29 @@ fn every_wrong_length_is_2() {
             let whole = record(kind, letters, &some_values(letters, &mut random));
             // Fewer bytes handed in than the field says, or under 4.
             for len in 0..whole.len() {
-                side.expect(&mut queue, &whole[..len], 2);
+                side.expect(&mut queue, &whole[..len], LENGTH);
             }
             // More bytes handed in than the field says.
             for more in 1..=8 {
                 let mut long = whole.clone();
                 long.extend(vec![0; more]);
-                side.expect(&mut queue, &long, 2);
+                side.expect(&mut queue, &long, LENGTH);
             }
             // A field that says something else of the same bytes.
             for len in (0..=40).chain([255, 256, 0x0400, 0x0A00, 65535]) {
                 if len as usize != whole.len() {
-                    side.expect(&mut queue, &with_length_field(&whole, len), 2);
+                    side.expect(&mut queue, &with_length_field(&whole, len), LENGTH);
                 }
             }
         }
         // A length under 4 is 2 even where it is what was handed in.
-        side.expect(&mut queue, &[], 2);
-        side.expect(&mut queue, &[1], 2);
-        side.expect(&mut queue, &[2, 0], 2);
-        side.expect(&mut queue, &[3, 0, 3], 2);
+        side.expect(&mut queue, &[], LENGTH);
+        side.expect(&mut queue, &[1], LENGTH);
+        side.expect(&mut queue, &[2, 0], LENGTH);
+        side.expect(&mut queue, &[3, 0, 3], LENGTH);
         // The wrong length comes before the wrong kind and the wrong body.
-        side.expect(&mut queue, &[5, 0, 0xFF, 0xFF], 2);
-        side.expect(&mut queue, &[9, 0, 0x01, 0x02, 0xFF, 0xFF], 2);
+        side.expect(&mut queue, &[5, 0, 0xFF, 0xFF], LENGTH);
+        side.expect(&mut queue, &[9, 0, 0x01, 0x02, 0xFF, 0xFF], LENGTH);
     }
     queue.finish();
 }
@@ -359,15 +481,15 @@ fn a_length_is_never_taken_modulo_65536() {
             let whole = record(kind, letters, &some_values(letters, &mut Random::new(1)));
             let mut long = whole.clone();
             long.resize(65536 + whole.len(), 0);
-            side.expect(&mut queue, &long, 2);
+            side.expect(&mut queue, &long, LENGTH);
         }
         for len in [65535usize, 65536, 65537, 65540, 131_072, 131_076] {
             let mut bytes = vec![0u8; len];
             bytes[..4].copy_from_slice(&[0xFF, 0xFF, 0xFF, 0xFF]);
-            side.expect(&mut queue, &bytes, if len == 65535 { 3 } else { 2 });
+            side.expect(&mut queue, &bytes, if len == 65535 { KIND } else { LENGTH });
             let kind = side.kinds[1].0;
             bytes[2..4].copy_from_slice(&kind.to_le_bytes());
-            side.expect(&mut queue, &bytes, if len == 65535 { 4 } else { 2 });
+            side.expect(&mut queue, &bytes, if len == 65535 { SIZE } else { LENGTH });
         }
     }
     queue.finish();
@@ -383,8 +505,13 @@ fn each_body_size_but_the_right_one_is_4() {
             for len in 4..=40 {
                 let mut bytes = whole.clone();
                 bytes.resize(len, 1);
-                let answer = if len == whole.len() { 0 } else { 4 };
-                side.expect(&mut queue, &with_length_field(&bytes, len as u16), answer);
+                let expected = if len == whole.len() { TAKEN } else { SIZE };
+                side.expect(&mut queue, &with_length_field(&bytes, len as u16), expected);
+                // The size is checked before the fields: 255 is in range for none of them.
+                if len != whole.len() {
+                    bytes[4..].fill(255);
+                    side.expect(&mut queue, &with_length_field(&bytes, len as u16), SIZE);
+                }
             }
         }
     }
@@ -403,26 +530,28 @@ fn all_65536_kinds_with_several_body_sizes() {
                 let mut bytes = vec![1u8; 4 + body_len];
                 bytes[..2].copy_from_slice(&(4 + body_len as u16).to_le_bytes());
                 bytes[2..4].copy_from_slice(&kind.to_le_bytes());
-                let answer = match known {
-                    None => 3,
+                let expected = match known {
+                    None => KIND,
                     Some((_, letters)) => {
                         let size: usize = letters.iter().map(|letter| letter.size()).sum();
-                        let timer = letters.contains(&N) || letters.contains(&NO);
-                        // 01 01 01 01 is an address over its range.
-                        let address = letters.contains(&A) || letters.contains(&A0);
-                        if size == body_len && !timer && !address {
-                            0
-                        } else {
-                            4
+                        // 01 01 01 01 is an address over its range, and it never stands behind n.
+                        let out_of_range = |letter: &Letter| matches!(letter, N | NO | A | A0);
+                        let before = letters.iter().take_while(|letter| !out_of_range(letter));
+                        match size == body_len {
+                            false => SIZE,
+                            true if letters.iter().any(out_of_range) => {
+                                bad(4 + before.map(|letter| letter.size()).sum::<usize>())
+                            }
+                            true => TAKEN,
                         }
                     }
                 };
-                taken += u32::from(answer == 0);
+                taken += u32::from(expected == TAKEN);
                 if known.is_some() {
-                    side.expect(&mut queue, &bytes, answer);
+                    side.expect(&mut queue, &bytes, expected);
                 } else {
-                    side.expect_of_reader(&mut queue, &bytes, 3);
-                    queue.check(&Request::copy(side.copy, &bytes, 16, 0x7E), |_, _, _| 3 << 16);
+                    side.expect_of_reader(&mut queue, &bytes, KIND);
+                    queue.check(&Request::copy(side.copy, &bytes, 16, 0x7E), |_, _, _| word(KIND));
                 }
             }
         }
@@ -437,7 +566,7 @@ fn fresh_is_written_only_to_21_bytes() {
     for len in 0..=64 {
         queue.check(&Request::fresh(&vec![0x99; len], 0x99), |record, _, _| {
             if len != 21 {
-                return 1 << 16;
+                return word((1, 0));
             }
             record
                 .copy_from_slice(&[0, 0, 0, 0, 0, 0, 0, 0, 0, 0, 0, 4, 4, 0, 0, 0, 0, 0, 0, 0, 0]);

@@ -88,7 +88,7 @@ fn a_length_above_64_stops_the_line() {
     for seed in 0..50 {
         assert_eq!(
             serial_line(&program, seed, &input),
-            "answer state plane bytes\n0 MO-CALL-SETUP 4 17\n2 MO-CALL-SETUP 4 0\n",
+            "answer state plane bytes place\n0 MO-CALL-SETUP 4 17 0\n2 MO-CALL-SETUP 4 0 0\n",
             "seed {seed}"
         );
     }

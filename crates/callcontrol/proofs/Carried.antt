@@ -22,7 +22,7 @@ unfolding carried
 too-long c d b n size short = rw (lt-leb _ _ (rw size at short))
 
 pub fitting : (c : Call) (d : Draft) (b after : List ℕ) (n end : ℕ) → n ≡ length (bytesOf (messagesIn d)) → n ≤ length b
-    → Laid b 0 (messagesIn d) end after → _≡_ {A = Outcome} (record { answer = 0; call = d .call; count = n; buffer = after }) (carried c d b)
+    → Laid b 0 (messagesIn d) end after → _≡_ {A = Outcome} (record { answer = 0; place = 0; call = d .call; count = n; buffer = after }) (carried c d b)
 unfolding carried
 fitting c d b after n end size room laid =
     let whole = laid .is ∙ lay-fits (messagesIn d) 0 b (omega arith) in

@@ -30,11 +30,11 @@ answer-same Answer.NoRoom = refl
 
 -- what an outcome says of the code's result
 back : Outcome → Stepped
-back o = record { answer = answer-back (o .answer); count = o .count; call = o .call }
+back o = record { answer = answer-back (o .answer); place = o .place; count = o .count; call = o .call }
 
 same : (r : Stepped) (b : List ℕ) → back (asOutcome r b) ≡ r
 unfolding back
-same r b = λ i. record { answer = answer-same (r .answer) i; count = r .count; call = r .call }
+same r b = λ i. record { answer = answer-same (r .answer) i; place = r .place; count = r .count; call = r .call }
 
 pub step : (o : Outcome) (r₁ r₂ : Stepped) (b₁ b₂ : List ℕ) → asOutcome r₁ b₁ ≡ o → asOutcome r₂ b₂ ≡ o → (r₁ ≡ r₂) × (b₁ ≡ b₂)
 step o r₁ r₂ b₁ b₂ e₁ e₂ =

@@ -20,16 +20,21 @@ use Rattle.callcontrol.specs.Call.{sound, isIdle}
 use Rattle.callcontrol.specs.Rows.{rowFor}
 use Rattle.callcontrol.specs.Writing.{messagesIn, bytesOf}
 
--- what comes back: the answer's number, the record, the count of bytes written, and the lent buffer then
+-- what comes back: the answer's number, the place that 4 has with it and 0 else, the record, the count of bytes written, and the lent buffer then
 pub record Outcome : Type 0 where
   pub answer : ℕ
+  pub place : ℕ
   pub call : Call
   pub count : ℕ
   pub buffer : List ℕ
 
 -- a refusal counts 0 bytes, changes no byte and returns the record as given
+abbrev pub refusalAt : ℕ → ℕ → Call → List ℕ → Outcome
+refusalAt n place c buffer = record { answer = n; place = place; call = c; count = 0; buffer = buffer }
+
+-- one that has no place
 abbrev pub refusal : ℕ → Call → List ℕ → Outcome
-refusal n c buffer = record { answer = n; call = c; count = 0; buffer = buffer }
+refusal n c buffer = refusalAt n 0 c buffer
 
 -- the identifier of a network event but D-SETUP
 abbrev pub namedIn : Event → Named
@@ -70,7 +75,7 @@ otherCall c e = differs c (namedIn e)
 unfoldable pub carried : Call → Draft → List ℕ → Outcome
 carried c d buffer =
     cond (leb (length (bytesOf (messagesIn d))) (length buffer))
-    (record { answer = 0; call = d .call; count = length (bytesOf (messagesIn d)); buffer = sets buffer 0 (bytesOf (messagesIn d)) })
+    (record { answer = 0; place = 0; call = d .call; count = length (bytesOf (messagesIn d)); buffer = sets buffer 0 (bytesOf (messagesIn d)) })
     (refusal 7 c buffer)
 
 -- an event that was read: 5, 6 and 7
@@ -81,7 +86,7 @@ decided c e buffer =
 
 abbrev pub whenRead : Read Event → Call → List ℕ → Outcome
 whenRead (taken e) c buffer = decided c e buffer
-whenRead (refused n) c buffer = refusal n c buffer
+whenRead (refused n place) c buffer = refusalAt n place c buffer
 
 -- the step: the lowest number that applies, and none otherwise
 unfoldable pub stepOf : Call → List ℕ → List ℕ → Outcome
@@ -99,15 +104,22 @@ answerNumber Answer.NoRow = 6
 answerNumber Answer.NoRoom = 7
 
 abbrev pub asOutcome : Stepped → List ℕ → Outcome
-asOutcome r buffer = record { answer = answerNumber (r .answer); call = r .call; count = r .count; buffer = buffer }
+asOutcome r buffer = record { answer = answerNumber (r .answer); place = r .place; call = r .call; count = r .count; buffer = buffer }
 
 -- the code's refusal
-abbrev pub refusing : Answer → Call → Stepped
-refusing a c = record { answer = a; count = 0; call = c }
+abbrev pub refusing : Answer → ℕ → Call → Stepped
+refusing a place c = record { answer = a; place = place; count = 0; call = c }
 
 -- the code's answer where no event was read
 abbrev pub unreadAs : EventRead → Answer
 unreadAs (EventRead.Is e) = Answer.Taken
 unreadAs EventRead.BadLength = Answer.BadLength
 unreadAs EventRead.UnknownKind = Answer.UnknownKind
-unreadAs EventRead.BadBody = Answer.BadBody
+unreadAs (EventRead.BadBody place) = Answer.BadBody
+
+-- and the place that comes with it
+abbrev pub placeIn : EventRead → ℕ
+placeIn (EventRead.Is e) = 0
+placeIn EventRead.BadLength = 0
+placeIn EventRead.UnknownKind = 0
+placeIn (EventRead.BadBody place) = place

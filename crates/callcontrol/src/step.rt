@@ -2,7 +2,7 @@
 ghost use mathlib.Core.Path.{_≡_};
 ghost use Prim.Native.Nat.{_<_};
 ghost use Rattle.callcontrol.specs.Draft.{asDraft};
-ghost use Rattle.callcontrol.specs.Step.{answerNumber, refusing, namedIn, differs, otherCall, carried, decided, stepOf, asOutcome, unreadAs};
+ghost use Rattle.callcontrol.specs.Step.{answerNumber, refusing, namedIn, differs, otherCall, carried, decided, stepOf, asOutcome, unreadAs, placeIn};
 use crate::call::Call;
 use crate::draft::Drafted;
 use crate::rows::row_for;
@@ -50,19 +50,21 @@ pub fn answer_number(answer: Answer) -> u8
     }
 }
 
-// The answer, the count of bytes written and the next record.
+// The answer, the place that comes with 4, the count of bytes written and the next record.
 pub struct Stepped {
     pub answer: Answer,
+    pub place: u8,
     pub count: usize,
     pub call: Call,
 }
 
 // A refusal counts 0 bytes and returns the record as given.
-fn refuse(answer: Answer, call: Call) -> Stepped
-    ensures { λ r. ⌜ r ≡ refusing answer call ⌝ }
+fn refuse(answer: Answer, place: u8, call: Call) -> Stepped
+    ensures { λ r. ⌜ r ≡ refusing answer place call ⌝ }
 {
     Stepped {
         answer,
+        place,
         count: 0,
         call,
     }
@@ -133,7 +135,19 @@ fn unread(read: EventRead) -> Answer
         EventRead::Is(_) => Answer::Taken,
         EventRead::BadLength => Answer::BadLength,
         EventRead::UnknownKind => Answer::UnknownKind,
-        EventRead::BadBody => Answer::BadBody,
+        EventRead::BadBody(_) => Answer::BadBody,
+    }
+}
+
+// The place that comes with it.
+fn place_in(read: EventRead) -> u8
+    ensures { λ r. ⌜ r ≡ placeIn read ⌝ }
+{
+    match read {
+        EventRead::Is(_) => 0,
+        EventRead::BadLength => 0,
+        EventRead::UnknownKind => 0,
+        EventRead::BadBody(place) => place,
     }
 }
 
@@ -143,12 +157,13 @@ fn carry(call: Call, draft: Drafted, buffer: &mut [u8]) -> Stepped
 {
     let size = messages_size(draft);
     if buffer.len() < size {
-        return refuse(Answer::NoRoom, call);
+        return refuse(Answer::NoRoom, 0, call);
     }
     lay_messages(draft, buffer);
     let next = draft.call;
     Stepped {
         answer: Answer::Taken,
+        place: 0,
         count: size,
         call: next,
     }
@@ -159,11 +174,11 @@ fn decide(call: Call, event: Event, buffer: &mut [u8]) -> Stepped
     ensures { λ r. ⌜ asOutcome r (now (buffer .exit)) ≡ decided call event (now (buffer .entry)) ⌝ }
 {
     if other_call(call, event) {
-        return refuse(Answer::OtherCall, call);
+        return refuse(Answer::OtherCall, 0, call);
     }
     let row = row_for(call, event);
     if row.orders == 0 {
-        return refuse(Answer::NoRow, call);
+        return refuse(Answer::NoRow, 0, call);
     }
     carry(call, settle(call, row), buffer)
 }
@@ -172,11 +187,11 @@ pub fn step(call: Call, event: &[u8], buffer: &mut [u8]) -> Stepped
     ensures { λ r. ⌜ asOutcome r (now (buffer .exit)) ≡ stepOf call (now (event .entry)) (now (buffer .entry)) ⌝ }
 {
     if !call.sound() {
-        return refuse(Answer::NotSound, call);
+        return refuse(Answer::NotSound, 0, call);
     }
     let read = read_event(event);
     let EventRead::Is(e) = read else {
-        return refuse(unread(read), call);
+        return refuse(unread(read), place_in(read), call);
     };
     decide(call, e, buffer)
 }

@@ -99,6 +99,7 @@ fn turn(call: Call, event: &[u8], lines: &mut [u8], laid: usize) -> Turned
         state,
         plane: next.plane,
         count: stepped.count as u8,
+        place: stepped.place,
     };
     let end = put_line(lines, laid, line);
     Turned {

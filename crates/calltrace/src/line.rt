@@ -1,5 +1,5 @@
-// The text of a line: the answer, the state and the plane of the record given back, and the count of bytes written. The last line is that
-// of a record which no step answers.
+// The text of a line: the answer, the state and the plane of the record given back, the count of bytes written, and the place that comes with
+// answer 4. The last line is that of a record which no step answers.
 ghost use Prim.Native.Nat.{ℕ, _+_, _<_, _≤_};
 ghost use mathlib.Core.List.{List, [], _∷_};
 ghost use lib.ListN.{length};
@@ -8,14 +8,15 @@ ghost use Rattle.calltrace.specs.Line.{code, decimal, nameOf, header, li
 use callcontrol::call::Call;
 use callcontrol::call::State;
 
-// The most bytes that a line takes.
-pub const LINE_MOST: usize = 26;
+// The most bytes that a line takes: the header's.
+pub const LINE_MOST: usize = 31;
 
 pub struct Line {
     pub answer: u8,
     pub state: State,
     pub plane: u8,
     pub count: u8,
+    pub place: u8,
 }
 
 // Each answers the position behind what it stores.
@@ -65,6 +66,16 @@ fn put_number(lines: &mut [u8], at: usize, n: u8) -> usize
     put_digit(lines, next, n % 10)
 }
 
+// A space, and a number behind it.
+fn put_column(lines: &mut [u8], at: usize, n: u8) -> usize
+    requires { ⌜ at + 4 ≤ length (now lines) ⌝ }
+    ensures { λ r. ⌜ Stored (now (lines .entry)) at (32 ∷ decimal n) r (now (lines .exit)) ⌝ }
+    ensures { λ r. ⌜ r ≤ at + 4 ⌝ }
+{
+    let at = put_byte(lines, at, b' ');
+    put_number(lines, at, n)
+}
+
 fn put_name(lines: &mut [u8], at: usize, state: State) -> usize
     requires { ⌜ at + 15 ≤ length (now lines) ⌝ }
     ensures { λ r. ⌜ Stored (now (lines .entry)) at (nameOf state) r (now (lines .exit)) ⌝ }
@@ -81,11 +92,11 @@ fn put_name(lines: &mut [u8], at: usize, state: State) -> usize
 }
 
 pub fn put_header(lines: &mut [u8]) -> usize
-    requires { ⌜ 25 ≤ length (now lines) ⌝ }
+    requires { ⌜ 31 ≤ length (now lines) ⌝ }
     ensures { λ r. ⌜ Stored (now (lines .entry)) 0 header r (now (lines .exit)) ⌝ }
-    ensures { λ r. ⌜ r ≤ 25 ⌝ }
+    ensures { λ r. ⌜ r ≤ 31 ⌝ }
 {
-    put_text(lines, 0, b"answer state plane bytes\n")
+    put_text(lines, 0, b"answer state plane bytes place\n")
 }
 
 pub fn put_line(lines: &mut [u8], at: usize, line: Line) -> usize
@@ -98,10 +109,9 @@ pub fn put_line(lines: &mut [u8], at: usize, line: Line) -> usize
     let at = put_digit(lines, at, line.answer);
     let at = put_byte(lines, at, b' ');
     let at = put_name(lines, at, state);
-    let at = put_byte(lines, at, b' ');
-    let at = put_number(lines, at, line.plane);
-    let at = put_byte(lines, at, b' ');
-    let at = put_number(lines, at, line.count);
+    let at = put_column(lines, at, line.plane);
+    let at = put_column(lines, at, line.count);
+    let at = put_column(lines, at, line.place);
     put_byte(lines, at, b'\n')
 }
 
@@ -120,6 +130,7 @@ pub fn put_last(lines: &mut [u8], at: usize, call: Call) -> usize
             state,
             plane: call.plane,
             count: 0,
+            place: 0,
         },
     )
 }

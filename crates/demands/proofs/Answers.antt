@@ -8,16 +8,17 @@ use mathlib.Core.Option.{some}
 use lib.Dec.{leb}
 use lib.ListN.{length}
 use Rattle.records.specs.declared.events.Event.{Event}
-use Rattle.records.specs.Tables.{Read, read}
+use Rattle.records.specs.Tables.{Read, taken, refused, read}
 use Rattle.records.specs.Events.{events}
+use Rattle.records.proofs.Places.{event-place-only-with-four}
 use Rattle.callcontrol.specs.declared.call.Call.{Call}
 use Rattle.callcontrol.specs.Draft.{Draft}
 use Rattle.callcontrol.specs.Call.{sound}
 use Rattle.callcontrol.specs.Rows.{rowFor}
 use Rattle.callcontrol.specs.Writing.{messagesIn, bytesOf}
-use Rattle.callcontrol.specs.Step.{Outcome, refusal, otherCall, carried, decided, whenRead, stepOf}
+use Rattle.callcontrol.specs.Step.{Outcome, refusalAt, refusal, otherCall, carried, decided, whenRead, stepOf}
 use Rattle.demands.specs.Runs.{Turn, outcome, takenBy, writtenBy}
-use Rattle.demands.specs.Demands.{wrongLength, noKind, badBody, ofEvent, applies, Answered, Refused, Zero, Taken}
+use Rattle.demands.specs.Demands.{wrongLength, noKind, badBody, ofEvent, applies, Answered, Refused, Placed, PlaceOnlyWithFour, Zero, Taken}
 use Rattle.demands.proofs.Reading.{Reads, bad-length, no-kind, bad-body, is, reads}
 use Rattle.demands.proofs.Turns.{byTests, Accepted, Turned, passed, took, turned, accepts}
 
@@ -53,13 +54,40 @@ answered c bytes buffer = step-answered c buffer (sound c) bytes (read events by
 
 -- ---- a refusal gives the record back
 
-refused-as : (c : Call) (t : Turn) (n : ℕ) → Turned c t → outcome c t .answer ≡ n → (n ≡ 0 → ⊥) → outcome c t ≡ refusal n c (t .buffer)
-refused-as c t n (passed {n = m} p) h not-zero = let same : m ≡ n = ap (λ o. o .answer) (sym (p .gives)) ∙ h in rw same at (p .gives)
+refused-as : (c : Call) (t : Turn) (n : ℕ) → Turned c t → outcome c t .answer ≡ n → (n ≡ 0 → ⊥) → outcome c t ≡ refusalAt n (outcome c t .place) c (t .buffer)
+refused-as c t n (passed {n = m} {place = q} p) h not-zero =
+    let same : m ≡ n = ap (λ o. o .answer) (sym (p .gives)) ∙ h in
+    let place : q ≡ outcome c t .place = ap (λ o. o .place) (sym (p .gives)) in
+    p .gives ∙ ap (λ m. refusalAt m q c (t .buffer)) same ∙ ap (λ q. refusalAt n q c (t .buffer)) place
 refused-as c t n (took e a) h not-zero = absurd (not-zero (sym h ∙ ap (λ o. o .answer) (a .gives)))
 
 pub refuses : Refused
 unfolding outcome
 refuses c bytes buffer n = let t : Turn = record { event = bytes; buffer = buffer } in refused-as c t n (turned c t)
+
+-- ---- a place comes with 4 alone, and is the reader's
+
+pub placed : Placed
+unfolding stepOf
+placed c bytes buffer n place ok reads = rw (ok, reads)
+
+event-placeless : (other row room : Bool) (c : Call) (d : Draft) (buffer : List ℕ) → byTests other row room c d buffer .place ≡ 0
+event-placeless true row room c d buffer = refl
+event-placeless false false room c d buffer = refl
+event-placeless false true false c d buffer = refl
+event-placeless false true true c d buffer = refl
+
+step-placeless : (ok : Bool) (s : List ℕ) (r : Read Event) → read events s ≡ r → (c : Call) (buffer : List ℕ)
+    → (cond ok (whenRead r c buffer) (refusal 1 c buffer) .answer ≡ 4 → ⊥) → cond ok (whenRead r c buffer) (refusal 1 c buffer) .place ≡ 0
+unfolding decided carried
+step-placeless false s r h c buffer other = refl
+step-placeless true s (taken e) h c buffer other =
+    event-placeless (otherCall c e) (rowFor c e .taken) (leb (length (bytesOf (messagesIn (rowFor c e)))) (length buffer)) c (rowFor c e) buffer
+step-placeless true s (refused n place) h c buffer other = event-place-only-with-four s n place h other
+
+pub place-only-with-four : PlaceOnlyWithFour
+unfolding stepOf
+place-only-with-four c bytes buffer = step-placeless (sound c) bytes (read events bytes) refl c buffer
 
 -- ---- what is taken gives the row's record and bytes
 

@@ -30,6 +30,12 @@ answered = Answers.answered
 pub refuses : claims.Refused
 refuses = Answers.refuses
 
+pub placed : claims.Placed
+placed = Answers.placed
+
+pub place-only-with-four : claims.PlaceOnlyWithFour
+place-only-with-four = Answers.place-only-with-four
+
 pub fresh-is-sound : claims.FreshIsSound
 fresh-is-sound = Sound.fresh-is-sound
 

@@ -10,18 +10,18 @@ use lib.Dec.{leb, eqb}
 use lib.ListN.{length}
 use Rattle.records.specs.declared.events.Event.{Event}
 use Rattle.records.specs.Bytes.{number}
-use Rattle.records.specs.Bodies.{Values, kindIn, bodyOf, size, numbersAt, allFit, flatFits}
-use Rattle.records.specs.Tables.{Read, taken, refused, orRefuse, find, readBody, readAs, read, flat, fine}
+use Rattle.records.specs.Bodies.{Values, Found, badAt, kindIn, bodyOf, size, valuesAt, numbersAt, allFit, flatFits}
+use Rattle.records.specs.Tables.{Read, taken, refused, orRefuse, orPlace, find, readBody, readAs, read, flat, fine}
 use Rattle.records.specs.Laws.{missing}
 use Rattle.records.specs.Events.{EventKind, eventRow, eventKinds, eventOf, events}
-use Rattle.records.proofs.Laws.{values-numbers}
+use Rattle.records.proofs.Places.{values-fit, wrong-misfits}
 use Rattle.records.proofs.Tables.{event-lawful}
 use Rattle.demands.specs.Demands.{wrongLength, noKind, bodyFits, badBody}
 
 pub data Reads (s : List ℕ) : Read Event → Type 0 where
-  bad-length : wrongLength s ≡ true → Reads s (refused 2)
-  no-kind : wrongLength s ≡ false → noKind s ≡ true → Reads s (refused 3)
-  bad-body : wrongLength s ≡ false → noKind s ≡ false → badBody s ≡ true → Reads s (refused 4)
+  bad-length : wrongLength s ≡ true → Reads s (refused 2 0)
+  no-kind : wrongLength s ≡ false → noKind s ≡ true → Reads s (refused 3 0)
+  bad-body : {place : ℕ} → wrongLength s ≡ false → noKind s ≡ false → badBody s ≡ true → Reads s (refused 4 place)
   is : {e : Event} → wrongLength s ≡ false → noKind s ≡ false → badBody s ≡ false → fine events e ≡ true → Reads s (taken e)
 
 -- ---- 3: a number that no line has leads to no kind
@@ -51,19 +51,21 @@ value-fine k vs fit =
 module _ (s : List ℕ) (lengthy : wrongLength s ≡ false) where
   in-body : (k : EventKind) → find events (number 2 s 2) eventKinds ≡ some k → noKind s ≡ false → Reads s (readBody events k s)
   unfolding readBody bodyOf badBody bodyFits
-  in-body k h known = rw (values-numbers (eventRow k .letters) s 4) (sized (eqb (length s) (4 + size (eventRow k .letters))) (allFit (eventRow k .letters) vs) refl refl)
+  in-body k h known = sized (eqb (length s) (4 + size (eventRow k .letters))) (valuesAt (eventRow k .letters) s 4) refl refl
     where
-      vs : Values (eventRow k .letters)
-      vs = numbersAt (eventRow k .letters) s 4
+      numbers : Values (eventRow k .letters)
+      numbers = numbersAt (eventRow k .letters) s 4
 
-      tested : {a b : Bool} → eqb (length s) (4 + size (eventRow k .letters)) ≡ a → allFit (eventRow k .letters) vs ≡ b → badBody s ≡ not (a && b)
+      tested : {a b : Bool} → eqb (length s) (4 + size (eventRow k .letters)) ≡ a → allFit (eventRow k .letters) numbers ≡ b → badBody s ≡ not (a && b)
       tested p q = rw (h, p, q)
 
-      sized : (a b : Bool) → eqb (length s) (4 + size (eventRow k .letters)) ≡ a → allFit (eventRow k .letters) vs ≡ b
-          → Reads s (orRefuse 4 (cond a (cond b (some vs) none) none) (λ vs. taken (eventOf k vs)))
-      sized false b p q = bad-body lengthy known (tested p q)
-      sized true false p q = bad-body lengthy known (tested p q)
-      sized true true p q = is lengthy known (tested p q) (value-fine k vs q)
+      sized : (a : Bool) (o : Found (Values (eventRow k .letters))) → eqb (length s) (4 + size (eventRow k .letters)) ≡ a → valuesAt (eventRow k .letters) s 4 ≡ o
+          → Reads s (orPlace (cond a o (badAt 2)) (λ vs. taken (eventOf k vs)))
+      sized false o p q = bad-body lengthy known (tested p refl)
+      sized true (badAt place) p q = bad-body lengthy known (tested p (wrong-misfits (eventRow k .letters) s 4 q))
+      sized true (Found.is vs) p q =
+          let fit : (vs ≡ numbers) × (allFit (eventRow k .letters) numbers ≡ true) = values-fit (eventRow k .letters) vs s 4 q in
+          is lengthy known (tested p (fit .1)) (value-fine k vs (rw (fit .0) (fit .1)))
 
   in-kind : (o : Option EventKind) → find events (number 2 s 2) eventKinds ≡ o → Reads s (orRefuse 3 o (λ k. readBody events k s))
   unfolding noKind
@@ -93,10 +95,10 @@ read-fine s e h = in-range (rw h at (reads s))
     in-range (is l k b f) = f
 
 -- no reader refuses with 0
-pub refusal-number : (n : ℕ) (s : List ℕ) → read events s ≡ refused n → n ≡ 0 → ⊥
-refusal-number n s h = other (rw h at (reads s))
+pub refusal-number : (n place : ℕ) (s : List ℕ) → read events s ≡ refused n place → n ≡ 0 → ⊥
+refusal-number n place s h = other (rw h at (reads s))
   where
-    other : {m : ℕ} → Reads s (refused m) → m ≡ 0 → ⊥
+    other : {m p : ℕ} → Reads s (refused m p) → m ≡ 0 → ⊥
     other (bad-length l) z = omega arith
     other (no-kind l k) z = omega arith
     other (bad-body l k b) z = omega arith

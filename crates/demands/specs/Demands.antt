@@ -22,7 +22,7 @@ use Rattle.callcontrol.specs.declared.call.Call.{Call}
 use Rattle.callcontrol.specs.Call.{freshCall, sound, pathNumber, runs, isIdle, T301, T302, T310}
 use Rattle.callcontrol.specs.Rows.{rowFor}
 use Rattle.callcontrol.specs.Writing.{messagesIn, bytesOf}
-use Rattle.callcontrol.specs.Step.{refusal, stepOf, otherCall}
+use Rattle.callcontrol.specs.Step.{refusalAt, stepOf, otherCall}
 use Rattle.demands.specs.Runs.{Turn, outcome, next, run, takenBy, takenIn, writtenBy, writtenIn, every?, told, ends}
 use Rattle.demands.specs.Examples.{turn, setupRequest, dConnect}
 use Rattle.demands.specs.History.{planeByHistory, idByHistory}
@@ -51,7 +51,7 @@ badBody bytes = ofKind (λ k. not (bodyFits k bytes)) (find events (number 2 byt
 
 abbrev pub ofEvent : (Event → Bool) → Read Event → Bool
 ofEvent p (taken e) = p e
-ofEvent p (refused m) = false
+ofEvent p (refused m place) = false
 
 -- where each answer of the paper's table applies, each told without a look at those below it; 5, 6 and 7 speak of an event, so of bytes
 -- that are one
@@ -80,7 +80,17 @@ Answered =
 abbrev pub Refused : Type 0
 Refused =
     (c : Call) (bytes buffer : List ℕ) (n : ℕ) →
-    stepOf c bytes buffer .answer ≡ n → (n ≡ 0 → ⊥) → stepOf c bytes buffer ≡ refusal n c buffer
+    stepOf c bytes buffer .answer ≡ n → (n ≡ 0 → ⊥) → stepOf c bytes buffer ≡ refusalAt n (stepOf c bytes buffer .place) c buffer
+
+-- with 4 a sound record gets the reader's place, of which records' Laws say what it is
+abbrev pub Placed : Type 0
+Placed =
+    (c : Call) (bytes buffer : List ℕ) (n place : ℕ) →
+    sound c ≡ true → read events bytes ≡ refused n place → stepOf c bytes buffer ≡ refusalAt n place c buffer
+
+-- and every other answer has place 0
+abbrev pub PlaceOnlyWithFour : Type 0
+PlaceOnlyWithFour = (c : Call) (bytes buffer : List ℕ) → (stepOf c bytes buffer .answer ≡ 4 → ⊥) → stepOf c bytes buffer .place ≡ 0
 
 -- a list of the logic may have any length; the record's array has seven timers
 abbrev pub sized : Call → Type 0

@@ -34,7 +34,7 @@ run c (t ∷ ts) = run (next c t) ts
 
 abbrev pub eventIn : Read Event → Option Event
 eventIn (taken e) = some e
-eventIn (refused n) = none
+eventIn (refused n place) = none
 
 -- the event that a turn takes, if its answer is 0
 unfoldable pub takenBy : Call → Turn → Option Event

@@ -27,6 +27,7 @@ abbrev pub singleAnswer : ℕ → Step
 singleAnswer n c event buffer =
     record {
       answer = n;
+      place = stepOf c event buffer .place;
       call = stepOf c event buffer .call;
       count = stepOf c event buffer .count;
       buffer = stepOf c event buffer .buffer;
@@ -34,17 +35,18 @@ singleAnswer n c event buffer =
 
 -- returns its record and writes nothing
 abbrev pub writesNothing : Step
-writesNothing c event buffer = record { answer = stepOf c event buffer .answer; call = c; count = 0; buffer = buffer }
+writesNothing c event buffer = record { answer = stepOf c event buffer .answer; place = stepOf c event buffer .place; call = c; count = 0; buffer = buffer }
 
 -- works for the first event, the one that finds the record in IDLE, and then only says 0
 abbrev pub firstOnly : Step
-firstOnly c event buffer = cond (isIdle c) (stepOf c event buffer) (record { answer = 0; call = c; count = 0; buffer = buffer })
+firstOnly c event buffer = cond (isIdle c) (stepOf c event buffer) (record { answer = 0; place = 0; call = c; count = 0; buffer = buffer })
 
 -- invents a count: one more than what was written
 abbrev pub countsMore : Step
 countsMore c event buffer =
     record {
       answer = stepOf c event buffer .answer;
+      place = stepOf c event buffer .place;
       call = stepOf c event buffer .call;
       count = cond (eqb (stepOf c event buffer .answer) 0) (stepOf c event buffer .count + 1) 0;
       buffer = stepOf c event buffer .buffer;

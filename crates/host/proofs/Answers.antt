@@ -17,7 +17,7 @@ use Rattle.demands.proofs.Facts.{left, right}
 
 -- bytes that are no record
 pub no-record : (s e b : List ℕ) {is : Bool} → is ≡ isRecord s → not is ≡ true
-    → _≡_ {A = Left} (record { result = 65536; call = s; out = b }) (hostStep s e b)
+    → _≡_ {A = Left} (record { result = 16777216; call = s; out = b }) (hostStep s e b)
 unfolding hostStep unpacked
 no-record s e b {is} tested other = rw (← tested, not-true is other)
 
@@ -38,11 +38,11 @@ module _
 
   -- a step that is taken is packed
   pub packs : n ≡ 0 → {after : List ℕ} → after ≡ sets s 0 (packed (o .call))
-      → _≡_ {A = Left} (record { result = word n (o .count); call = after; out = o .buffer }) (hostStep s e b)
+      → _≡_ {A = Left} (record { result = word n (o .place) (o .count); call = after; out = o .buffer }) (hostStep s e b)
   packs zero {after} pack = rw (number, pack) (rw (eq-eqb (o .answer) 0 (sym number ∙ zero)) at whole)
 
   -- one that is refused leaves the bytes
-  pub leaves : (n ≡ 0 → ⊥) → _≡_ {A = Left} (record { result = word n (o .count); call = s; out = o .buffer }) (hostStep s e b)
+  pub leaves : (n ≡ 0 → ⊥) → _≡_ {A = Left} (record { result = word n (o .place) (o .count); call = s; out = o .buffer }) (hostStep s e b)
   leaves other = rw number (rw (ne-eqb (o .answer) 0 (λ zero. other (number ∙ zero))) at whole)
 
 -- a value that is read is written

@@ -69,14 +69,14 @@ pub turn-is-step : TurnIsStep
 turn-is-step s ts t h = rw (run-is-packed s ts h) (turn-packed (run freshCall ts) t (always ts))
 
 -- the count is in the low two bytes of the result
-low : (answer count : ℕ) → count ≤ 122 → (answer * 65536 + count) % 65536 ≡ count
-low answer count h = omega arith
+low : (answer place count : ℕ) → count ≤ 122 → (answer * 16777216 + place * 65536 + count) % 65536 ≡ count
+low answer place count h = omega arith
 
 pub turn-reads-back : TurnReadsBack
 unfolding outcome
 turn-reads-back s ts t h =
     let c = run freshCall ts in
-    rw (turn-is-step s ts t h, low (outcome c t .answer) (outcome c t .count) (step-small c (t .event) (t .buffer) refl)) (reads-back c t (always ts))
+    rw (turn-is-step s ts t h, low (outcome c t .answer) (outcome c t .place) (outcome c t .count) (step-small c (t .event) (t .buffer) refl)) (reads-back c t (always ts))
 
 plane-byte : (c : Call) → getD (packed c) 11 0 ≡ c .plane
 unfolding packed names settings running bytes

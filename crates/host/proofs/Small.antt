@@ -1,4 +1,4 @@
--- Every count is small, so that answer * 65536 + count is a u32.
+-- Every count is small, so that a result is a u32.
 use Prim.Native.Nat.{ℕ, _+_, _≤_, _<_, _^_}
 use mathlib.Core.Path.{_≡_, ap}
 use mathlib.Core.Bool.{Bool, true, false, cond, not, _&&_}
@@ -21,7 +21,7 @@ use Rattle.callcontrol.specs.declared.draft.Slot.{Slot}
 use Rattle.callcontrol.specs.Call.{sound}
 use Rattle.callcontrol.specs.Rows.{rowFor}
 use Rattle.callcontrol.specs.Writing.{held, messagesIn, bytesOf, countOf}
-use Rattle.callcontrol.specs.Step.{Outcome, refusal, otherCall, carried, decided, whenRead, stepOf}
+use Rattle.callcontrol.specs.Step.{Outcome, refusalAt, otherCall, carried, decided, whenRead, stepOf}
 use Rattle.callcontrol.proofs.Laying.{size-one, size-bound, size-messages}
 use Rattle.host.specs.Entries.{wroteWord}
 use Rattle.demands.proofs.Facts.{left, right}
@@ -55,7 +55,7 @@ either : (b : Bool) {x y : Outcome} → Few x → Few y → Few (cond b x y)
 either true h k = h
 either false h k = k
 
-none : {n : ℕ} {c : Call} {b : List ℕ} → Few (refusal n c b)
+none : {n place : ℕ} {c : Call} {b : List ℕ} → Few (refusalAt n place c b)
 none = record { few = lit≤ tt }
 
 read-few : (r : Read Event) (c : Call) (b : List ℕ) → Few (whenRead r c b)
@@ -65,7 +65,7 @@ read-few (taken e) c b =
     (either (rowFor c e .taken)
     (either (leb (length (bytesOf (messagesIn (rowFor c e)))) (length b)) (record { few = messages-small (rowFor c e) }) none)
     none)
-read-few (refused n) c b = none
+read-few (refused n place) c b = none
 
 step-few : (c : Call) (e b : List ℕ) → Few (stepOf c e b)
 unfolding stepOf

@@ -1,5 +1,5 @@
 // What a set links: call control on byte slices. A host keeps a call as 21 bytes and hands them in with each event. Every entry returns
-// answer * 65536 + count of bytes written.
+// answer * 2^24 + place * 2^16 + count of bytes written; 4 alone has a place, the reader's.
 ghost use mathlib.Core.Path.{_≡_};
 ghost use mathlib.Core.List.{List};
 ghost use Prim.Native.Nat.{ℕ, _<_, _^_};
@@ -31,9 +31,9 @@ fn event_word(read: EventRead) -> u32
 {
     match read {
         EventRead::Is(_) => 0,
-        EventRead::BadLength => 2 * 65536,
-        EventRead::UnknownKind => 3 * 65536,
-        EventRead::BadBody => 4 * 65536,
+        EventRead::BadLength => 2 * 16777216,
+        EventRead::UnknownKind => 3 * 16777216,
+        EventRead::BadBody(place) => 4 * 16777216 + (place as u32) * 65536,
     }
 }
 
@@ -42,9 +42,9 @@ fn message_word(read: MessageRead) -> u32
 {
     match read {
         MessageRead::Is(_) => 0,
-        MessageRead::BadLength => 2 * 65536,
-        MessageRead::UnknownKind => 3 * 65536,
-        MessageRead::BadBody => 4 * 65536,
+        MessageRead::BadLength => 2 * 16777216,
+        MessageRead::UnknownKind => 3 * 16777216,
+        MessageRead::BadBody(place) => 4 * 16777216 + (place as u32) * 65536,
     }
 }
 
@@ -54,8 +54,8 @@ fn written_word(written: Written) -> u32
 {
     match written {
         Written::Count(n) => n as u32,
-        Written::BadField => 4 * 65536,
-        Written::NoRoom => 7 * 65536,
+        Written::BadField => 4 * 16777216,
+        Written::NoRoom => 7 * 16777216,
     }
 }
 
@@ -65,7 +65,7 @@ pub extern "C" fn callcontrol_fresh(call: &mut [u8]) -> u32
     ensures { λ r. ⌜ _≡_ {A = ℕ × List ℕ} (r, now (call .exit)) (freshened (now (call .entry))) ⌝ }
 {
     if call.len() != 21 {
-        return 65536;
+        return 16777216;
     }
     pack(Call::fresh(), call);
     21
@@ -77,13 +77,13 @@ pub extern "C" fn callcontrol_step(call: &mut [u8], event: &[u8], out: &mut [u8]
     ensures { λ r. ⌜ _≡_ {A = Left} (record { result = r; call = now (call .exit); out = now (out .exit) }) (hostStep (now (call .entry)) (now (event .entry)) (now (out .entry))) ⌝ }
 {
     if !is_record(call) {
-        return 65536;
+        return 16777216;
     }
     let stepped = step(held(call), event, out);
     let answer = stepped.answer;
     let next = stepped.call;
     let number = answer_number(answer) as u32;
-    let result = number * 65536 + stepped.count as u32;
+    let result = number * 16777216 + (stepped.place as u32) * 65536 + stepped.count as u32;
     if number == 0 {
         pack(next, call);
     }

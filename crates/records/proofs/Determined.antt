@@ -5,14 +5,14 @@ use mathlib.Core.Bool.{cond, true}
 use mathlib.Core.List.{List}
 use mathlib.Core.Option.{Option, none, some}
 use lib.Dec.{eqb}
-use Rattle.records.specs.declared.bodies.Frame.{Frame}
+use Rattle.records.specs.declared.bodies.Head.{Head}
 use Rattle.records.specs.declared.bodies.Parts.{Parts}
 use Rattle.records.specs.declared.bodies.Written.{Written}
 use Rattle.records.specs.declared.events.Event.{Event}
 use Rattle.records.specs.declared.events.EventRead.{EventRead}
 use Rattle.records.specs.declared.messages.Message.{Message}
 use Rattle.records.specs.declared.messages.MessageRead.{MessageRead}
-use Rattle.records.specs.Bodies.{Wrote, wrote, notWritten, asFrame, asWrote, kindIn, written, flatBytes, partsOf, laid, laidNext}
+use Rattle.records.specs.Bodies.{Wrote, wrote, notWritten, asHead, asWrote, kindIn, written, flatBytes, partsOf, laid, laidNext}
 use Rattle.records.specs.Tables.{Read, taken, refused, read, write}
 use Rattle.records.specs.Events.{events, asEventRead}
 use Rattle.records.specs.Messages.{messages, asMessageRead, messageBytes, messageSize}
@@ -28,34 +28,34 @@ equation = turned (λ r. r) (λ r. r) (λ r. refl)
 
 event-back : Read Event → EventRead
 event-back (taken e) = EventRead.Is e
-event-back (refused n) = cond (eqb n 2) EventRead.BadLength (cond (eqb n 3) EventRead.UnknownKind EventRead.BadBody)
+event-back (refused n place) = cond (eqb n 2) EventRead.BadLength (cond (eqb n 3) EventRead.UnknownKind (EventRead.BadBody place))
 
 event-same : (r : EventRead) → event-back (asEventRead r) ≡ r
 unfolding event-back
 event-same (EventRead.Is e) = refl
 event-same EventRead.BadLength = refl
 event-same EventRead.UnknownKind = refl
-event-same EventRead.BadBody = refl
+event-same (EventRead.BadBody place) = refl
 
 message-back : Read Message → MessageRead
 message-back (taken m) = MessageRead.Is m
-message-back (refused n) = cond (eqb n 2) MessageRead.BadLength (cond (eqb n 3) MessageRead.UnknownKind MessageRead.BadBody)
+message-back (refused n place) = cond (eqb n 2) MessageRead.BadLength (cond (eqb n 3) MessageRead.UnknownKind (MessageRead.BadBody place))
 
 message-same : (r : MessageRead) → message-back (asMessageRead r) ≡ r
 unfolding message-back
 message-same (MessageRead.Is m) = refl
 message-same MessageRead.BadLength = refl
 message-same MessageRead.UnknownKind = refl
-message-same MessageRead.BadBody = refl
+message-same (MessageRead.BadBody place) = refl
 
-frame-back : Option ℕ → Frame
-frame-back (some k) = Frame.Kind k
-frame-back none = Frame.Bad
+head-back : Option ℕ → Head
+head-back (some k) = Head.Kind k
+head-back none = Head.Bad
 
-frame-same : (r : Frame) → frame-back (asFrame r) ≡ r
-unfolding frame-back
-frame-same (Frame.Kind k) = refl
-frame-same Frame.Bad = refl
+head-same : (r : Head) → head-back (asHead r) ≡ r
+unfolding head-back
+head-same (Head.Kind k) = refl
+head-same Head.Bad = refl
 
 wrote-back : Wrote → Written
 wrote-back (wrote n) = Written.Count n
@@ -94,8 +94,8 @@ lay-message m buffer at = equation (laidNext (messageBytes m) buffer at, laid (m
 pub message-size : (m : Message) (r₁ r₂ : ℕ) → r₁ ≡ messageSize m → r₂ ≡ messageSize m → r₁ ≡ r₂
 message-size m = equation (messageSize m)
 
-pub kind-in : (s : List ℕ) (r₁ r₂ : Frame) → asFrame r₁ ≡ kindIn s → asFrame r₂ ≡ kindIn s → r₁ ≡ r₂
-kind-in s = turned asFrame frame-back frame-same (kindIn s)
+pub kind-in : (s : List ℕ) (r₁ r₂ : Head) → asHead r₁ ≡ kindIn s → asHead r₂ ≡ kindIn s → r₁ ≡ r₂
+kind-in s = turned asHead head-back head-same (kindIn s)
 
 pub write-parts : (p : Parts) (buffer : List ℕ) (w₁ w₂ : Written × List ℕ) → wroteInto w₁ ≡ written true (flatBytes (partsOf p)) buffer → wroteInto w₂ ≡ written true (flatBytes (partsOf p)) buffer → w₁ ≡ w₂
 write-parts p buffer = into-determined (written true (flatBytes (partsOf p)) buffer)

@@ -1,6 +1,8 @@
 -- Laws that more than one function needs, and the claims about the tables; a function's own proof stands in its folder.
 pub mod Determined
 pub mod Laws
+pub mod Places
+pub mod Reading
 pub mod RoundTrip
 pub mod Rows
 pub mod Tables

@@ -17,8 +17,8 @@ use Rattle.records.specs.declared.letters.Word.{Word}
 use Rattle.records.specs.declared.letters.Long.{Long}
 use Rattle.records.specs.Letters.{Letter, byte, word, long, width, fits, spanOf, within, isTimer}
 use Rattle.records.specs.Bytes.{number, bytes}
-use Rattle.records.specs.Bodies.{Values, Flat, Wrote, wrote, notWritten, size, andThen, valueAt, valuesAt, kindIn, bodyOf, allFit, bodyBytes, flatSize, flatFits, flatBytes, written}
-use Rattle.records.specs.Tables.{Table, Read, taken, refused, orRefuse, find, readBody, readAs, read, flat, fine, write}
+use Rattle.records.specs.Bodies.{Values, Flat, Wrote, wrote, notWritten, Found, is, badAt, size, andThen, valueAt, valuesAt, kindIn, bodyOf, allFit, bodyBytes, flatSize, flatFits, flatBytes, written}
+use Rattle.records.specs.Tables.{Table, Read, taken, refused, orRefuse, orPlace, find, readBody, readAs, read, flat, fine, write}
 use Rattle.records.specs.Laws.{every, Lawful, WrittenReadsBack, WriterReadsBack, ReadIsWrittenBack, ReadWritesBack}
 use Rattle.records.specs.Events.{events}
 use Rattle.records.specs.Messages.{messages}
@@ -28,7 +28,7 @@ use Rattle.records.proofs.Tables.{event-lawful, message-lawful}
 
 -- ---- tests and options that came out well
 
-both : (a b : Bool) → (a && b) ≡ true → (a ≡ true) × (b ≡ true)
+pub both : (a b : Bool) → (a && b) ≡ true → (a ≡ true) × (b ≡ true)
 both true b h = (refl, h)
 both false b h = (h, cc)
 
@@ -106,7 +106,7 @@ bytes-number (suc w) at s small h =
 -- ---- bodies
 
 -- the bytes of values hold those values
-values-body : (ls : List Letter) (vs : Values ls) (s : List ℕ) (at : ℕ) → allFit ls vs ≡ true → drop at s ≡ bodyBytes ls vs → valuesAt ls s at ≡ some vs
+values-body : (ls : List Letter) (vs : Values ls) (s : List ℕ) (at : ℕ) → allFit ls vs ≡ true → drop at s ≡ bodyBytes ls vs → valuesAt ls s at ≡ is vs
 unfolding valuesAt valueAt allFit bodyBytes
 values-body [] vs s at fit e = refl
 values-body (l ∷ ls) vs s at fit e =
@@ -116,17 +116,17 @@ values-body (l ∷ ls) vs s at fit e =
     rw (n, f .0, values-body ls (vs .1) s (at + width l) (f .1) rest)
 
 -- a value that was taken, and then the others
-one-more : {A B : Type 0} (b : Bool) (x y : A) (o : Option B) (z : B) → andThen (cond b (some x) none) (λ v. andThen {B = A × B} o (λ w. some (v, w))) ≡ some (y, z) → (b ≡ true) × ((x ≡ y) × (o ≡ some z))
-one-more true x y none z e = (refl, (cc, cc))
-one-more {A} {B} true x y (some w) z e = let q : _≡_ {A = A × B} (x, w) (y, z) = cc in (refl, (ap (λ r. r .0) q, ap some (ap (λ r. r .1) q)))
-one-more false x y o z e = (cc, (cc, cc))
+pub one-more : {A B : Type 0} (b : Bool) (x y : A) (p : ℕ) (o : Found B) (z : B) → andThen (cond b (is x) (badAt p)) (λ v. andThen {B = A × B} o (λ w. is (v, w))) ≡ is (y, z) → (b ≡ true) × ((x ≡ y) × (o ≡ is z))
+one-more {A} {B} true x y p (is w) z e = let q : _≡_ {A = A × B} (x, w) (y, z) = cc in (refl, (ap (λ r. r .0) q, ap is (ap (λ r. r .1) q)))
+one-more true x y p (badAt n) z e = (refl, (cc, cc))
+one-more false x y p o z e = (cc, (cc, cc))
 
 -- the values that bytes hold have those bytes
-body-values : (ls : List Letter) (vs : Values ls) (s : List ℕ) (at : ℕ) → ((i : ℕ) → getD s i 0 < 256) → at + size ls ≤ length s → valuesAt ls s at ≡ some vs → (bodyBytes ls vs ≡ take (size ls) (drop at s)) × (allFit ls vs ≡ true)
+body-values : (ls : List Letter) (vs : Values ls) (s : List ℕ) (at : ℕ) → ((i : ℕ) → getD s i 0 < 256) → at + size ls ≤ length s → valuesAt ls s at ≡ is vs → (bodyBytes ls vs ≡ take (size ls) (drop at s)) × (allFit ls vs ≡ true)
 unfolding valuesAt valueAt allFit bodyBytes
 body-values [] vs s at small h e = (refl, refl)
 body-values (l ∷ ls) vs s at small h e =
-    let p : (fits l (number (width l) s at) ≡ true) × ((number (width l) s at ≡ vs .0) × (valuesAt ls s (at + width l) ≡ some (vs .1))) = one-more _ _ _ _ _ e in
+    let p : (fits l (number (width l) s at) ≡ true) × ((number (width l) s at ≡ vs .0) × (valuesAt ls s (at + width l) ≡ is (vs .1))) = one-more _ _ _ _ _ _ e in
     let fit : fits l (vs .0) ≡ true = rw (p .1 .0) at (p .0) in
     let first : bytes (width l) (vs .0) ≡ take (width l) (drop at s) = rw (p .1 .0) at (bytes-number (width l) at s small (omega arith)) in
     let rest : (bodyBytes ls (vs .1) ≡ take (size ls) (drop (at + width l) s)) × (allFit ls (vs .1) ≡ true) = body-values ls (vs .1) s (at + width l) small (omega arith) (p .1 .1) in
@@ -142,13 +142,21 @@ kept : {A : Type 0} (b : Bool) (o : Option A) (a : A) → cond b o none ≡ some
 kept true o a e = (refl, e)
 kept false o a e = (cc, cc)
 
+sized : {A : Type 0} (b : Bool) (o : Found A) (a : A) → cond b o (badAt 2) ≡ is a → (b ≡ true) × (o ≡ is a)
+sized true o a e = (refl, e)
+sized false o a e = (cc, cc)
+
 took : {A B : Type 0} (n : ℕ) (o : Option A) (f : A → Read B) (v : B) → orRefuse n o f ≡ taken v → (a : A) × ((o ≡ some a) × (f a ≡ taken v))
 took n none f v e = let z : _≡_ {A = ℕ} 0 1 = cc in absurd (omega arith)
 took n (some a) f v e = (a, (refl, e))
 
-agreed : {A : Type 0} (b : Bool) (x v : A) → cond b (taken x) (refused 4) ≡ taken v → (b ≡ true) × (x ≡ v)
-agreed true x v e = (refl, cc)
-agreed false x v e = (cc, cc)
+held : {A B : Type 0} (o : Found A) (f : A → Read B) (v : B) → orPlace o f ≡ taken v → (a : A) × ((o ≡ is a) × (f a ≡ taken v))
+held (is a) f v e = (a, (refl, e))
+held (badAt p) f v e = let z : _≡_ {A = ℕ} 0 1 = cc in absurd (omega arith)
+
+agreed : {A : Type 0} (b : Bool) (x v : A) (p : ℕ) → cond b (taken x) (refused 4 p) ≡ taken v → (b ≡ true) × (x ≡ v)
+agreed true x v p e = (refl, cc)
+agreed false x v p e = (cc, cc)
 
 roomy : (ok room : Bool) (out full buffer after : List ℕ) (n : ℕ) → _≡_ {A = Wrote × List ℕ} (cond ok (cond room (wrote (length out), full) (notWritten 7, buffer)) (notWritten 4, buffer)) (wrote n, after) → (ok ≡ true) × ((room ≡ true) × ((length out ≡ n) × (full ≡ after)))
 roomy true true out full buffer after n e = let q : wrote (length out) ≡ wrote n = ap (λ r. r .0) e in (refl, (refl, (cc, ap (λ r. r .1) e)))
@@ -164,7 +172,7 @@ cut s n e =
 
 module _ (t : Table) (lawful : Lawful t) where
   -- the kind that is found has the number
-  found-number : (n : ℕ) (ks : List (t .Kind)) (k : t .Kind) → find t n ks ≡ some k → n ≡ t .rowOf k .number
+  pub found-number : (n : ℕ) (ks : List (t .Kind)) (k : t .Kind) → find t n ks ≡ some k → n ≡ t .rowOf k .number
   found-number n [] k e = cc
   found-number n (j ∷ ks) k e =
       ⊎-elim (λ w. eqb-true n (t .rowOf j .number) (w .0) ∙ ap (λ i. t .rowOf i .number) (w .1)) (found-number n ks k)
@@ -191,15 +199,14 @@ module _ (t : Table) (lawful : Lawful t) where
     measured : length s ≡ 4 + size (t .rowOf k .letters)
     said : number 2 s 0 ≡ length s
     kind : number 2 s 2 ≡ t .rowOf k .number
-    body : valuesAt (t .rowOf k .letters) s 4 ≡ some vs
+    body : valuesAt (t .rowOf k .letters) s 4 ≡ is vs
 
   -- they are read so
   holds-read : (k : t .Kind) (vs : Values (t .rowOf k .letters)) (s : List ℕ) → Holds k vs s → t .agrees (t .valueOf k vs) ≡ true → read t s ≡ taken (t .valueOf k vs)
-  unfolding kindIn bodyOf
+  unfolding kindIn
   holds-read k vs s h agrees =
       let head : some (t .rowOf k .number) ≡ kindIn s = rw (le-leb 4 (length s) (omega arith), eq-eqb _ _ (h .said), h .kind) in
-      let held : some vs ≡ bodyOf (t .rowOf k .letters) s = rw (eq-eqb _ _ (h .measured), h .body) in
-      sym (headed t s head (good t (lawful .found) k s agrees refl held))
+      sym (headed t s head (good t (lawful .found) k s refl (h .measured) (record { held = sym (h .body) }) agrees))
 
   -- and nothing else is
   read-holds : (v : t .Value) (s : List ℕ) → read t s ≡ taken v → (k : t .Kind) × ((vs : Values (t .rowOf k .letters)) × (Holds k vs s × ((t .agrees v ≡ true) × (t .valueOf k vs ≡ v))))
@@ -208,12 +215,12 @@ module _ (t : Table) (lawful : Lawful t) where
       let head : (n : ℕ) × ((kindIn s ≡ some n) × (readAs t n s ≡ taken v)) = took 2 (kindIn s) (λ n. readAs t n s) v e in
       let line : (k : t .Kind) × ((find t (head .0) (t .kinds) ≡ some k) × (readBody t k s ≡ taken v)) = took 3 (find t (head .0) (t .kinds)) (λ k. readBody t k s) v (head .1 .1) in
       let k : t .Kind = line .0 in
-      let held : (vs : Values (t .rowOf k .letters)) × ((bodyOf (t .rowOf k .letters) s ≡ some vs) × (cond (t .agrees (t .valueOf k vs)) (taken (t .valueOf k vs)) (refused 4) ≡ taken v)) = took 4 (bodyOf (t .rowOf k .letters) s) _ v (line .1 .1) in
-      let vs : Values (t .rowOf k .letters) = held .0 in
-      let ok : (t .agrees (t .valueOf k vs) ≡ true) × (t .valueOf k vs ≡ v) = agreed _ _ v (held .1 .1) in
+      let w : (vs : Values (t .rowOf k .letters)) × ((bodyOf (t .rowOf k .letters) s ≡ is vs) × (cond (t .agrees (t .valueOf k vs)) (taken (t .valueOf k vs)) (refused 4 (t .clash)) ≡ taken v)) = held (bodyOf (t .rowOf k .letters) s) _ v (line .1 .1) in
+      let vs : Values (t .rowOf k .letters) = w .0 in
+      let ok : (t .agrees (t .valueOf k vs) ≡ true) × (t .valueOf k vs ≡ v) = agreed _ _ v (t .clash) (w .1 .1) in
       let four : (leb 4 (length s) ≡ true) × (cond (eqb (number 2 s 0) (length s)) (some (number 2 s 2)) none ≡ some (head .0)) = kept _ _ _ (head .1 .0) in
       let said : (eqb (number 2 s 0) (length s) ≡ true) × (some (number 2 s 2) ≡ some (head .0)) = kept _ _ _ (four .1) in
-      let body : (eqb (length s) (4 + size (t .rowOf k .letters)) ≡ true) × (valuesAt (t .rowOf k .letters) s 4 ≡ some vs) = kept _ _ _ (held .1 .0) in
+      let body : (eqb (length s) (4 + size (t .rowOf k .letters)) ≡ true) × (valuesAt (t .rowOf k .letters) s 4 ≡ is vs) = sized _ _ _ (w .1 .0) in
       let number : number 2 s 2 ≡ head .0 = cc (said .1) in
       (k, (vs, (record { measured = eqb-true _ _ (body .0); said = eqb-true _ _ (said .0); kind = number ∙ found-number (head .0) (t .kinds) k (line .1 .0); body = body .1 }, (rw (ok .1) at (ok .0), ok .1))))
 

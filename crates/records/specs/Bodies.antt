@@ -12,9 +12,11 @@ use Rattle.records.specs.Letters.{Letter, byte, word, long, width, fits}
 use Rattle.records.specs.declared.bodies.Shape.{Shape}
 use Rattle.records.specs.declared.bodies.Fields.{Fields}
 use Rattle.records.specs.declared.bodies.Parts.{Parts}
-use Rattle.records.specs.declared.bodies.Frame.{Frame}
-use Rattle.records.specs.declared.bodies.Body.{Body}
+use Rattle.records.specs.declared.bodies.Head.{Head}
 use Rattle.records.specs.declared.bodies.Written.{Written}
+use Rattle.records.specs.declared.fields.ByteField.{ByteField}
+use Rattle.records.specs.declared.fields.WordField.{WordField}
+use Rattle.records.specs.declared.fields.LongField.{LongField}
 
 -- a value for each letter
 abbrev pub Values : List Letter → Type 0
@@ -26,19 +28,23 @@ abbrev pub size : List Letter → ℕ
 size [] = 0
 size (l ∷ ls) = width l + size ls
 
--- what comes of a value that may be missing
-abbrev pub andThen : {A B : Type 0} → Option A → (A → Option B) → Option B
-andThen none f = none
-andThen (some a) f = f a
+-- what reading letters finds: what they hold, or the place of the first that is wrong
+pub data Found (A : Type 0) : Type 0 where
+  is : A → Found A
+  badAt : ℕ → Found A
+
+abbrev pub andThen : {A B : Type 0} → Found A → (A → Found B) → Found B
+andThen (is a) f = f a
+andThen (badAt p) f = badAt p
 
 -- a letter's value at a position, where it is in the letter's range
-unfoldable pub valueAt : Letter → List ℕ → ℕ → Option ℕ
-valueAt l s at = cond (fits l (number (width l) s at)) (some (number (width l) s at)) none
+unfoldable pub valueAt : Letter → List ℕ → ℕ → Found ℕ
+valueAt l s at = cond (fits l (number (width l) s at)) (is (number (width l) s at)) (badAt at)
 
 -- the letters' values, one after the other from a position on
-unfoldable pub valuesAt : (ls : List Letter) → List ℕ → ℕ → Option (Values ls)
-valuesAt [] s at = some tt
-valuesAt (l ∷ ls) s at = andThen (valueAt l s at) (λ v. andThen (valuesAt ls s (at + width l)) (λ vs. some (v, vs)))
+unfoldable pub valuesAt : (ls : List Letter) → List ℕ → ℕ → Found (Values ls)
+valuesAt [] s at = is tt
+valuesAt (l ∷ ls) s at = andThen (valueAt l s at) (λ v. andThen (valuesAt ls s (at + width l)) (λ vs. is (v, vs)))
 
 -- the numbers at the letters, one after the other from a position on
 unfoldable pub numbersAt : (ls : List Letter) → List ℕ → ℕ → Values ls
@@ -49,9 +55,9 @@ numbersAt (l ∷ ls) s at = (number (width l) s at, numbersAt ls s (at + width l
 unfoldable pub kindIn : List ℕ → Option ℕ
 kindIn s = cond (leb 4 (length s)) (cond (eqb (number 2 s 0) (length s)) (some (number 2 s 2)) none) none
 
--- the values of a body that has the letters' size
-unfoldable pub bodyOf : (ls : List Letter) → List ℕ → Option (Values ls)
-bodyOf ls s = cond (eqb (length s) (4 + size ls)) (valuesAt ls s 4) none
+-- the values of a body that has the letters' size; another size is wrong at 2, before any letter is
+unfoldable pub bodyOf : (ls : List Letter) → List ℕ → Found (Values ls)
+bodyOf ls s = cond (eqb (length s) (4 + size ls)) (valuesAt ls s 4) (badAt 2)
 
 -- every value is in its letter's range
 unfoldable pub allFit : (ls : List Letter) → Values ls → Bool
@@ -114,9 +120,6 @@ lettersOf (Shape.WordByteByteByte w b c d) = word w ∷ byte b ∷ byte c ∷ by
 lettersOf (Shape.WordLongByte w a b) = word w ∷ long a ∷ byte b ∷ []
 lettersOf (Shape.LongByteByte a b c) = long a ∷ byte b ∷ byte c ∷ []
 
-abbrev pub fields : ℕ → ℕ → ℕ → ℕ → ℕ → Fields
-fields two four first second third = record { word = two; long = four; first = first; second = second; third = third }
-
 abbrev pub valuesOf : (shape : Shape) → Fields → Values (lettersOf shape)
 valuesOf Shape.Nothing f = tt
 valuesOf (Shape.Byte b) f = (f .first, tt)
@@ -127,27 +130,25 @@ valuesOf (Shape.WordByteByteByte w b c d) f = (f .word, (f .first, (f .second, (
 valuesOf (Shape.WordLongByte w a b) f = (f .word, (f .long, (f .first, tt)))
 valuesOf (Shape.LongByteByte a b c) f = (f .long, (f .first, (f .second, tt)))
 
--- the fields that hold a shape's values; what the shape lacks is 0
-abbrev pub fieldsOf : (shape : Shape) → Values (lettersOf shape) → Fields
-fieldsOf Shape.Nothing v = fields 0 0 0 0 0
-fieldsOf (Shape.Byte b) v = fields 0 0 (v .0) 0 0
-fieldsOf (Shape.Word w) v = fields (v .0) 0 0 0 0
-fieldsOf (Shape.WordByte w b) v = fields (v .0) 0 (v .1 .0) 0 0
-fieldsOf (Shape.WordByteByte w b c) v = fields (v .0) 0 (v .1 .0) (v .1 .1 .0) 0
-fieldsOf (Shape.WordByteByteByte w b c d) v = fields (v .0) 0 (v .1 .0) (v .1 .1 .0) (v .1 .1 .1 .0)
-fieldsOf (Shape.WordLongByte w a b) v = fields (v .0) (v .1 .0) (v .1 .1 .0) 0 0
-fieldsOf (Shape.LongByteByte a b c) v = fields 0 (v .0) (v .1 .0) (v .1 .1 .0) 0
-
 abbrev pub partsOf : Parts → Flat
 partsOf p = record { kind = p .kind; letters = lettersOf (p .shape); values = valuesOf (p .shape) (p .fields) }
 
-abbrev pub asFrame : Frame → Option ℕ
-asFrame (Frame.Kind k) = some k
-asFrame Frame.Bad = none
+abbrev pub asHead : Head → Option ℕ
+asHead (Head.Kind k) = some k
+asHead Head.Bad = none
 
-unfoldable pub bodyAs : (shape : Shape) → Option (Values (lettersOf shape)) → Body
-bodyAs shape none = Body.Bad
-bodyAs shape (some vs) = Body.Is (fieldsOf shape vs)
+-- what a reader of one field answers, of a letter at a position
+abbrev pub asByte : ℕ → ByteField → Found ℕ
+asByte at (ByteField.Is v) = is v
+asByte at ByteField.Bad = badAt at
+
+abbrev pub asWord : ℕ → WordField → Found ℕ
+asWord at (WordField.Is v) = is v
+asWord at WordField.Bad = badAt at
+
+abbrev pub asLong : ℕ → LongField → Found ℕ
+asLong at (LongField.Is v) = is v
+asLong at LongField.Bad = badAt at
 
 abbrev pub asWrote : Written → Wrote
 asWrote (Written.Count n) = wrote n

@@ -128,11 +128,12 @@ events =
       valueOf = eventOf;
       apart = eventApart;
       agrees = λ e. true;
+      clash = 0;
     }
 
 -- the paper's number and value for each case of the code's answer
 abbrev pub asEventRead : EventRead → Read Event
 asEventRead (EventRead.Is e) = taken e
-asEventRead EventRead.BadLength = refused 2
-asEventRead EventRead.UnknownKind = refused 3
-asEventRead EventRead.BadBody = refused 4
+asEventRead EventRead.BadLength = refused 2 0
+asEventRead EventRead.UnknownKind = refused 3 0
+asEventRead (EventRead.BadBody place) = refused 4 place

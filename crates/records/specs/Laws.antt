@@ -1,13 +1,15 @@
--- What holds of the tables, and of what is read and written by them. The proofs are in proofs/Tables and proofs/RoundTrip.
+-- What holds of the tables, and of what is read and written by them. The proofs are in proofs/Tables, proofs/RoundTrip and proofs/Places.
 use Prim.Native.Nat.{ℕ, _+_, _<_, _≤_}
 use mathlib.Core.Path.{_≡_}
-use mathlib.Core.Bool.{Bool, true, _&&_, not}
+use mathlib.Core.Bool.{Bool, true, false, _&&_, not}
 use mathlib.Core.List.{List, [], _∷_, _++_, map}
 use mathlib.Core.Option.{some}
 use lib.Dec.{eqb, ltb}
 use lib.ListN.{length, getD, take, drop}
-use Rattle.records.specs.Bodies.{Values, wrote, size, flatBytes}
-use Rattle.records.specs.Tables.{Table, taken, find, read, flat, fine, write}
+use Rattle.records.specs.Bytes.{number}
+use Rattle.records.specs.Letters.{Letter, width, fits}
+use Rattle.records.specs.Bodies.{Values, wrote, size, numbersAt, kindIn, allFit, flatBytes}
+use Rattle.records.specs.Tables.{Table, taken, refused, find, read, flat, fine, write}
 
 -- no number stands twice in a list
 abbrev pub missing : ℕ → List ℕ → Bool
@@ -22,7 +24,36 @@ abbrev pub every : {A : Type 0} → (A → Bool) → List A → Bool
 every p [] = true
 every p (x ∷ xs) = p x && every p xs
 
+-- letters from a position on whose first wrong one stands at a place: each before it has a number in its range, and it has one that is not
+pub record FirstWrong (ls : List Letter) (s : List ℕ) (at p : ℕ) : Type 0 where
+  pub before : List Letter
+  pub letter : Letter
+  pub after : List Letter
+  pub whole : ls ≡ before ++ (letter ∷ after)
+  pub place : p ≡ at + size before
+  pub right : allFit before (numbersAt before s at) ≡ true
+  pub wrong : fits letter (number (width letter) s p) ≡ false
+
 module _ (t : Table) where
+  -- what is wrong with the body of a kind, and its place: the size; else the first field out of its range; else, all fields being in range, the
+  -- field that does not agree
+  pub data WrongBody (k : t .Kind) (s : List ℕ) : ℕ → Type 0 where
+    wrongSize : (length s ≡ 4 + size (t .rowOf k .letters) → ⊥) → WrongBody k s 2
+    wrongField : {p : ℕ} → length s ≡ 4 + size (t .rowOf k .letters) → FirstWrong (t .rowOf k .letters) s 4 p → WrongBody k s p
+    wrongTogether : length s ≡ 4 + size (t .rowOf k .letters) → allFit (t .rowOf k .letters) (numbersAt (t .rowOf k .letters) s 4) ≡ true → t .agrees (t .valueOf k (numbersAt (t .rowOf k .letters) s 4)) ≡ false → WrongBody k s (t .clash)
+
+  -- where 4 comes back with a place, length and kind are right and the body is wrong there
+  abbrev pub PlaceIsWrong : Type 0
+  PlaceIsWrong = (s : List ℕ) (p : ℕ) → read t s ≡ refused 4 p → (k : t .Kind) × ((kindIn s ≡ some (t .rowOf k .number)) × WrongBody k s p)
+
+  -- and where length and kind are right and the body is wrong, 4 comes back with the place
+  abbrev pub WrongHasPlace : Type 0
+  WrongHasPlace = (s : List ℕ) (p : ℕ) (k : t .Kind) → kindIn s ≡ some (t .rowOf k .number) → WrongBody k s p → read t s ≡ refused 4 p
+
+  -- no other answer has a place
+  abbrev pub PlaceOnlyWithFour : Type 0
+  PlaceOnlyWithFour = (s : List ℕ) (n p : ℕ) → read t s ≡ refused n p → (n ≡ 4 → ⊥) → p ≡ 0
+
   -- the numbers of the kinds
   abbrev pub numbers : List ℕ
   numbers = map (λ k. t .rowOf k .number) (t .kinds)

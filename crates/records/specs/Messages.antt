@@ -1,9 +1,9 @@
 -- The paper's table of messages, and what its lines stand for.
-use Prim.Native.Nat.{ℕ}
+use Prim.Native.Nat.{ℕ, _+_}
 use mathlib.Core.Bool.{Bool, true, _||_}
 use mathlib.Core.List.{List, [], _∷_}
 use lib.Dec.{eqb}
-use Rattle.records.specs.Letters.{a₁, d, q, i, i₀, c, a, n, o, p, g, x}
+use Rattle.records.specs.Letters.{width, a₁, d, q, i, i₀, c, a, n, o, p, g, x}
 use Rattle.records.specs.declared.messages.Message.{Message}
 use Rattle.records.specs.declared.messages.MessageRead.{MessageRead}
 use Rattle.records.specs.Bodies.{Values, flatBytes, flatSize}
@@ -145,14 +145,15 @@ messages =
       valueOf = messageOf;
       apart = messageApart;
       agrees = messageAgrees;
+      clash = 4 + width n;  -- START's o, behind its n
     }
 
 -- the paper's number and value for each case of the code's answer
 abbrev pub asMessageRead : MessageRead → Read Message
 asMessageRead (MessageRead.Is m) = taken m
-asMessageRead MessageRead.BadLength = refused 2
-asMessageRead MessageRead.UnknownKind = refused 3
-asMessageRead MessageRead.BadBody = refused 4
+asMessageRead MessageRead.BadLength = refused 2 0
+asMessageRead MessageRead.UnknownKind = refused 3 0
+asMessageRead (MessageRead.BadBody place) = refused 4 place
 
 -- a message as bytes, and how many they are
 unfoldable pub messageBytes : Message → List ℕ

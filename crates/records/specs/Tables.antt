@@ -5,7 +5,7 @@ use mathlib.Core.List.{List, [], _∷_}
 use mathlib.Core.Option.{Option, none, some}
 use lib.Dec.{eqb}
 use Rattle.records.specs.Letters.{Letter}
-use Rattle.records.specs.Bodies.{Values, Flat, Wrote, bodyOf, kindIn, flatFits, flatBytes, written}
+use Rattle.records.specs.Bodies.{Values, Flat, Found, is, badAt, Wrote, bodyOf, kindIn, flatFits, flatBytes, written}
 
 -- a line of a table
 pub record Row : Type 0 where
@@ -15,12 +15,13 @@ pub record Row : Type 0 where
 abbrev pub row : ℕ → List Letter → Row
 row n ls = record { number = n; letters = ls }
 
--- what a reader finds: a value, or the number of the refusal
+-- what a reader finds: a value, or a refusal's number with its place, which counts from the record's first byte and is 0 for every number but 4
 pub data Read (A : Type 0) : Type 0 where
   taken : A → Read A
-  refused : ℕ → Read A
+  refused : ℕ → ℕ → Read A
 
--- a table, and what its lines stand for. `agrees` is what a value must meet beyond the ranges of its letters
+-- a table, and what its lines stand for. `agrees` is what a value must meet beyond the ranges of its letters, and `clash` the place of the field that
+-- is wrong where it does not
 pub record Table : Type 1 where
   pub Kind : Type 0
   pub Value : Type 0
@@ -29,11 +30,17 @@ pub record Table : Type 1 where
   pub valueOf : (k : Kind) → Values (rowOf k .letters) → Value
   pub apart : Value → (k : Kind) × Values (rowOf k .letters)
   pub agrees : Value → Bool
+  pub clash : ℕ
 
 -- what follows where something was found, and else the refusal
 abbrev pub orRefuse : {A B : Type 0} → ℕ → Option A → (A → Read B) → Read B
-orRefuse n none f = refused n
+orRefuse n none f = refused n 0
 orRefuse n (some a) f = f a
+
+-- what follows where a body holds something, and else 4 with the place
+abbrev pub orPlace : {A B : Type 0} → Found A → (A → Read B) → Read B
+orPlace (is a) f = f a
+orPlace (badAt p) f = refused 4 p
 
 module _ (t : Table) where
   -- the kind that has a number
@@ -43,8 +50,8 @@ module _ (t : Table) where
 
   unfoldable pub readBody : t .Kind → List ℕ → Read (t .Value)
   readBody k s =
-      orRefuse 4 (bodyOf (t .rowOf k .letters) s)
-      (λ vs. cond (t .agrees (t .valueOf k vs)) (taken (t .valueOf k vs)) (refused 4))
+      orPlace (bodyOf (t .rowOf k .letters) s)
+      (λ vs. cond (t .agrees (t .valueOf k vs)) (taken (t .valueOf k vs)) (refused 4 (t .clash)))
 
   -- the record of a kind by its number
   unfoldable pub readAs : ℕ → List ℕ → Read (t .Value)

@@ -4,9 +4,9 @@ ghost use mathlib.Core.Bool.{true};
 ghost use mathlib.Core.List.{List};
 ghost use Prim.Native.Nat.{ℕ, _+_, _<_, _≤_};
 ghost use lib.ListN.{length};
-ghost use Rattle.records.specs.Bytes.{number, bytes};
-ghost use Rattle.records.specs.Letters.{Letter};
-ghost use Rattle.records.specs.Bodies.{Wrote, Stored, size, lettersOf, valuesOf, kindIn, bodyOf, allFit, bodyBytes, partsOf, flatBytes, flatFits, flatSize, laid, laidNext, written, asFrame, bodyAs, asWrote};
+ghost use Rattle.records.specs.Bytes.{bytes};
+ghost use Rattle.records.specs.Bodies.{Wrote, Stored, size, lettersOf, valuesOf, kindIn, allFit, bodyBytes, partsOf, flatBytes, flatFits, flatSize, laid, laidNext, written, asHead, asWrote};
+use crate::fields::word_at;
 use crate::letters::Byte;
 use crate::letters::Long;
 use crate::letters::Word;
@@ -26,7 +26,7 @@ pub enum Shape {
     LongByteByte(Long, Byte, Byte),
 }
 
-// The values of a body: the u16, the u32 and the bytes in their order. What a shape lacks is 0 when read, and not written.
+// The values of a body: the u16, the u32 and the bytes in their order. What a shape lacks is not written.
 pub struct Fields {
     pub word: u16,
     pub long: u32,
@@ -43,14 +43,8 @@ pub struct Parts {
 }
 
 // The kind that a record's head gives, or none where its length is wrong.
-pub enum Frame {
+pub enum Head {
     Kind(u16),
-    Bad,
-}
-
-// What a body holds, or that its size or a letter's value is wrong.
-pub enum Body {
-    Is(Fields),
     Bad,
 }
 
@@ -61,36 +55,18 @@ pub enum Written {
     NoRoom,
 }
 
-fn word_at(s: &[u8], at: usize) -> u16
-    requires { ⌜ at + 2 ≤ length (now s) ⌝ }
-    ensures { λ r. ⌜ r ≡ number 2 (now (s .entry)) at ⌝ }
-{
-    let low = s[at] as u16;
-    let high = s[at + 1] as u16;
-    low + 256 * high
-}
-
-fn long_at(s: &[u8], at: usize) -> u32
-    requires { ⌜ at + 4 ≤ length (now s) ⌝ }
-    ensures { λ r. ⌜ r ≡ number 4 (now (s .entry)) at ⌝ }
-{
-    let low = word_at(s, at) as u32;
-    let high = word_at(s, at + 2) as u32;
-    low + 65536 * high
-}
-
 // The kind, where at least four bytes came and as many as the length says.
-pub fn kind_in(s: &[u8]) -> Frame
-    ensures { λ r. ⌜ asFrame r ≡ kindIn (now (s .entry)) ⌝ }
+pub fn kind_in(s: &[u8]) -> Head
+    ensures { λ r. ⌜ asHead r ≡ kindIn (now (s .entry)) ⌝ }
 {
     if s.len() < 4 {
-        return Frame::Bad;
+        return Head::Bad;
     }
     let said = word_at(s, 0) as usize;
     if said != s.len() {
-        return Frame::Bad;
+        return Head::Bad;
     }
-    Frame::Kind(word_at(s, 2))
+    Head::Kind(word_at(s, 2))
 }
 
 // How many bytes a shape's letters take.
@@ -127,157 +103,6 @@ fn fields_fit(shape: Shape, f: Fields) -> bool
         Shape::LongByteByte(a, b, c) => long_fits(a, f.long)
             & (byte_fits(b, f.first) & byte_fits(c, f.second)),
     }
-}
-
-// What the body of a record holds, where it has the shape's size and every value fits. A reader for each shape, so that the arm of a
-// kind is compiled with its own: neither the shape nor the fields go through memory.
-
-pub fn nothing_in(s: &[u8]) -> Body
-    ensures { λ r. ⌜ r ≡ bodyAs Shape.Nothing (bodyOf (lettersOf Shape.Nothing) (now (s .entry))) ⌝ }
-{
-    if s.len() != 4 {
-        return Body::Bad;
-    }
-    Body::Is(Fields {
-        word: 0,
-        long: 0,
-        first: 0,
-        second: 0,
-        third: 0,
-    })
-}
-
-pub fn byte_in(s: &[u8], b: Byte) -> Body
-    ensures { λ r. ⌜ r ≡ bodyAs (Shape.Byte b) (bodyOf (lettersOf (Shape.Byte b)) (now (s .entry))) ⌝ }
-{
-    if s.len() != 5 {
-        return Body::Bad;
-    }
-    if byte_fits(b, s[4]) {
-        return Body::Is(Fields {
-            word: 0,
-            long: 0,
-            first: s[4],
-            second: 0,
-            third: 0,
-        });
-    }
-    Body::Bad
-}
-
-pub fn word_in(s: &[u8], w: Word) -> Body
-    ensures { λ r. ⌜ r ≡ bodyAs (Shape.Word w) (bodyOf (lettersOf (Shape.Word w)) (now (s .entry))) ⌝ }
-{
-    if s.len() != 6 {
-        return Body::Bad;
-    }
-    let word = word_at(s, 4);
-    if word_fits(w, word) {
-        return Body::Is(Fields {
-            word,
-            long: 0,
-            first: 0,
-            second: 0,
-            third: 0,
-        });
-    }
-    Body::Bad
-}
-
-pub fn word_byte_in(s: &[u8], w: Word, b: Byte) -> Body
-    ensures { λ r. ⌜ r ≡ bodyAs (Shape.WordByte w b) (bodyOf (lettersOf (Shape.WordByte w b)) (now (s .entry))) ⌝ }
-{
-    if s.len() != 7 {
-        return Body::Bad;
-    }
-    let word = word_at(s, 4);
-    if word_fits(w, word) & byte_fits(b, s[6]) {
-        return Body::Is(Fields {
-            word,
-            long: 0,
-            first: s[6],
-            second: 0,
-            third: 0,
-        });
-    }
-    Body::Bad
-}
-
-pub fn word_byte_byte_in(s: &[u8], w: Word, b: Byte, c: Byte) -> Body
-    ensures { λ r. ⌜ r ≡ bodyAs (Shape.WordByteByte w b c) (bodyOf (lettersOf (Shape.WordByteByte w b c)) (now (s .entry))) ⌝ }
-{
-    if s.len() != 8 {
-        return Body::Bad;
-    }
-    let word = word_at(s, 4);
-    if word_fits(w, word) & (byte_fits(b, s[6]) & byte_fits(c, s[7])) {
-        return Body::Is(Fields {
-            word,
-            long: 0,
-            first: s[6],
-            second: s[7],
-            third: 0,
-        });
-    }
-    Body::Bad
-}
-
-pub fn word_byte_byte_byte_in(s: &[u8], w: Word, b: Byte, c: Byte, d: Byte) -> Body
-    ensures { λ r. ⌜ r ≡ bodyAs (Shape.WordByteByteByte w b c d) (bodyOf (lettersOf (Shape.WordByteByteByte w b c d)) (now (s .entry))) ⌝ }
-{
-    if s.len() != 9 {
-        return Body::Bad;
-    }
-    let word = word_at(s, 4);
-    if word_fits(w, word) & (byte_fits(b, s[6]) & (byte_fits(c, s[7]) & byte_fits(d, s[8]))) {
-        return Body::Is(Fields {
-            word,
-            long: 0,
-            first: s[6],
-            second: s[7],
-            third: s[8],
-        });
-    }
-    Body::Bad
-}
-
-pub fn word_long_byte_in(s: &[u8], w: Word, a: Long, b: Byte) -> Body
-    ensures { λ r. ⌜ r ≡ bodyAs (Shape.WordLongByte w a b) (bodyOf (lettersOf (Shape.WordLongByte w a b)) (now (s .entry))) ⌝ }
-{
-    if s.len() != 11 {
-        return Body::Bad;
-    }
-    let word = word_at(s, 4);
-    let long = long_at(s, 6);
-    if word_fits(w, word) & (long_fits(a, long) & byte_fits(b, s[10])) {
-        return Body::Is(Fields {
-            word,
-            long,
-            first: s[10],
-            second: 0,
-            third: 0,
-        });
-    }
-    Body::Bad
-}
-
-pub fn long_byte_byte_in(s: &[u8], a: Long, b: Byte, c: Byte) -> Body
-    ensures { λ r. ⌜ r ≡ bodyAs (Shape.LongByteByte a b c) (bodyOf (lettersOf (Shape.LongByteByte a b c)) (now (s .entry))) ⌝ }
-{
-    if s.len() != 10 {
-        return Body::Bad;
-    }
-    let long = long_at(s, 4);
-    if long_fits(a, long) & (byte_fits(b, s[8]) & byte_fits(c, s[9])) {
-        return Body::Is(Fields {
-            word: 0,
-            long,
-            first: s[8],
-            second: s[9],
-            third: 0,
-        });
-    }
-    Body::Bad
 }
 
 // Whether every value of a record is in its letter's range.

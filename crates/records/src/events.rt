@@ -5,23 +5,20 @@ ghost use Prim.Native.Nat.{ℕ};
 ghost use Rattle.records.specs.Bodies.{Wrote, asWrote, partsOf};
 ghost use Rattle.records.specs.Tables.{read, readAs, flat, write};
 ghost use Rattle.records.specs.Events.{events, asEventRead};
-use crate::bodies::Body;
 use crate::bodies::Fields;
-use crate::bodies::Frame;
+use crate::bodies::Head;
 use crate::bodies::Parts;
 use crate::bodies::Shape;
 use crate::bodies::Written;
-use crate::bodies::byte_in;
 use crate::bodies::kind_in;
-use crate::bodies::long_byte_byte_in;
-use crate::bodies::nothing_in;
 use crate::bodies::parts_fit;
-use crate::bodies::word_byte_byte_byte_in;
-use crate::bodies::word_byte_byte_in;
-use crate::bodies::word_byte_in;
-use crate::bodies::word_in;
-use crate::bodies::word_long_byte_in;
 use crate::bodies::write_parts;
+use crate::fields::ByteField;
+use crate::fields::LongField;
+use crate::fields::WordField;
+use crate::fields::byte_in;
+use crate::fields::long_in;
+use crate::fields::word_in;
 use crate::letters::Byte;
 use crate::letters::Long;
 use crate::letters::Word;
@@ -131,12 +128,12 @@ pub enum Event {
     },
 }
 
-// What reading finds: the value, or the paper's refusals 2, 3 and 4.
+// What reading finds: the value, or the paper's refusals 2, 3 and 4; 4 with the place of the first wrong field, or 2 for the body's size.
 pub enum EventRead {
     Is(Event),
     BadLength,
     UnknownKind,
-    BadBody,
+    BadBody(u8),
 }
 
 // The record of a kind by its number.
@@ -144,185 +141,272 @@ fn read_kind(kind: u16, s: &[u8]) -> EventRead
     ensures { λ r. ⌜ asEventRead r ≡ readAs events kind (now (s .entry)) ⌝ }
 {
     match kind {
-        0x0101 => {
-            let Body::Is(f) = long_byte_byte_in(s, Long::A1, Byte::D, Byte::Q) else { // SETUP request a d q
-                return EventRead::BadBody;
+        0x0101 => { // SETUP request a d q
+            if s.len() != 10 {
+                return EventRead::BadBody(2);
+            }
+            let LongField::Is(address) = long_in(s, 4, Long::A1) else {
+                return EventRead::BadBody(4);
             };
-            EventRead::Is(Event::SetupRequest {
-                address: f.long,
-                mode: f.first,
-                ask: f.second,
-            })
+            let ByteField::Is(mode) = byte_in(s, 8, Byte::D) else {
+                return EventRead::BadBody(8);
+            };
+            let ByteField::Is(ask) = byte_in(s, 9, Byte::Q) else {
+                return EventRead::BadBody(9);
+            };
+            EventRead::Is(Event::SetupRequest { address, mode, ask })
         }
-        0x0102 => {
-            let Body::Is(f) = nothing_in(s) else { // SETUP response
-                return EventRead::BadBody;
-            };
+        0x0102 => { // SETUP response
+            if s.len() != 4 {
+                return EventRead::BadBody(2);
+            }
             EventRead::Is(Event::SetupResponse)
         }
-        0x0103 => {
-            let Body::Is(f) = nothing_in(s) else { // RELEASE request
-                return EventRead::BadBody;
-            };
+        0x0103 => { // RELEASE request
+            if s.len() != 4 {
+                return EventRead::BadBody(2);
+            }
             EventRead::Is(Event::ReleaseRequest)
         }
-        0x0104 => {
-            let Body::Is(f) = byte_in(s, Byte::K) else { // TX request k
-                return EventRead::BadBody;
+        0x0104 => { // TX request k
+            if s.len() != 5 {
+                return EventRead::BadBody(2);
+            }
+            let ByteField::Is(go) = byte_in(s, 4, Byte::K) else {
+                return EventRead::BadBody(4);
             };
-            EventRead::Is(Event::TxRequest { go: f.first })
+            EventRead::Is(Event::TxRequest { go })
         }
-        0x0105 => {
-            let Body::Is(f) = byte_in(s, Byte::D) else { // MODIFY request d
-                return EventRead::BadBody;
+        0x0105 => { // MODIFY request d
+            if s.len() != 5 {
+                return EventRead::BadBody(2);
+            }
+            let ByteField::Is(mode) = byte_in(s, 4, Byte::D) else {
+                return EventRead::BadBody(4);
             };
-            EventRead::Is(Event::ModifyRequest { mode: f.first })
+            EventRead::Is(Event::ModifyRequest { mode })
         }
-        0x0201 => {
-            let Body::Is(f) = word_in(s, Word::I) else { // D-CALL PROCEEDING i
-                return EventRead::BadBody;
+        0x0201 => { // D-CALL PROCEEDING i
+            if s.len() != 6 {
+                return EventRead::BadBody(2);
+            }
+            let WordField::Is(id) = word_in(s, 4, Word::I) else {
+                return EventRead::BadBody(4);
             };
-            EventRead::Is(Event::DCallProceeding { id: f.word })
+            EventRead::Is(Event::DCallProceeding { id })
         }
-        0x0202 => {
-            let Body::Is(f) = word_in(s, Word::I) else { // D-ALERT i
-                return EventRead::BadBody;
+        0x0202 => { // D-ALERT i
+            if s.len() != 6 {
+                return EventRead::BadBody(2);
+            }
+            let WordField::Is(id) = word_in(s, 4, Word::I) else {
+                return EventRead::BadBody(4);
             };
-            EventRead::Is(Event::DAlert { id: f.word })
+            EventRead::Is(Event::DAlert { id })
         }
-        0x0203 => {
-            let Body::Is(f) = word_byte_byte_byte_in(s, Word::I, Byte::G, Byte::D, Byte::O) else { // D-CONNECT i g d o
-                return EventRead::BadBody;
+        0x0203 => { // D-CONNECT i g d o
+            if s.len() != 9 {
+                return EventRead::BadBody(2);
+            }
+            let WordField::Is(id) = word_in(s, 4, Word::I) else {
+                return EventRead::BadBody(4);
+            };
+            let ByteField::Is(grant) = byte_in(s, 6, Byte::G) else {
+                return EventRead::BadBody(6);
+            };
+            let ByteField::Is(mode) = byte_in(s, 7, Byte::D) else {
+                return EventRead::BadBody(7);
+            };
+            let ByteField::Is(code) = byte_in(s, 8, Byte::O) else {
+                return EventRead::BadBody(8);
             };
             EventRead::Is(Event::DConnect {
-                id: f.word,
-                grant: f.first,
-                mode: f.second,
-                code: f.third,
+                id,
+                grant,
+                mode,
+                code,
             })
         }
-        0x0204 => {
-            let Body::Is(f) = word_byte_byte_in(s, Word::I, Byte::G, Byte::O) else { // D-CONNECT ACKNOWLEDGE i g o
-                return EventRead::BadBody;
+        0x0204 => { // D-CONNECT ACKNOWLEDGE i g o
+            if s.len() != 8 {
+                return EventRead::BadBody(2);
+            }
+            let WordField::Is(id) = word_in(s, 4, Word::I) else {
+                return EventRead::BadBody(4);
             };
-            EventRead::Is(Event::DConnectAcknowledge {
-                id: f.word,
-                grant: f.first,
-                code: f.second,
-            })
-        }
-        0x0205 => {
-            let Body::Is(f) = word_long_byte_in(s, Word::I, Long::A, Byte::D) else { // D-SETUP i a d
-                return EventRead::BadBody;
+            let ByteField::Is(grant) = byte_in(s, 6, Byte::G) else {
+                return EventRead::BadBody(6);
             };
-            EventRead::Is(Event::DSetup {
-                id: f.word,
-                address: f.long,
-                mode: f.first,
-            })
+            let ByteField::Is(code) = byte_in(s, 7, Byte::O) else {
+                return EventRead::BadBody(7);
+            };
+            EventRead::Is(Event::DConnectAcknowledge { id, grant, code })
         }
-        0x0206 => {
-            let Body::Is(f) = word_byte_byte_byte_in(s, Word::I, Byte::R, Byte::O16, Byte::D) else { // D-INFO i r o d
-                return EventRead::BadBody;
+        0x0205 => { // D-SETUP i a d
+            if s.len() != 11 {
+                return EventRead::BadBody(2);
+            }
+            let WordField::Is(id) = word_in(s, 4, Word::I) else {
+                return EventRead::BadBody(4);
+            };
+            let LongField::Is(address) = long_in(s, 6, Long::A) else {
+                return EventRead::BadBody(6);
+            };
+            let ByteField::Is(mode) = byte_in(s, 10, Byte::D) else {
+                return EventRead::BadBody(10);
+            };
+            EventRead::Is(Event::DSetup { id, address, mode })
+        }
+        0x0206 => { // D-INFO i r o d
+            if s.len() != 9 {
+                return EventRead::BadBody(2);
+            }
+            let WordField::Is(id) = word_in(s, 4, Word::I) else {
+                return EventRead::BadBody(4);
+            };
+            let ByteField::Is(reset) = byte_in(s, 6, Byte::R) else {
+                return EventRead::BadBody(6);
+            };
+            let ByteField::Is(code) = byte_in(s, 7, Byte::O16) else {
+                return EventRead::BadBody(7);
+            };
+            let ByteField::Is(mode) = byte_in(s, 8, Byte::D) else {
+                return EventRead::BadBody(8);
             };
             EventRead::Is(Event::DInfo {
-                id: f.word,
-                reset: f.first,
-                code: f.second,
-                mode: f.third,
+                id,
+                reset,
+                code,
+                mode,
             })
         }
-        0x0207 => {
-            let Body::Is(f) = word_byte_in(s, Word::I, Byte::G) else { // D-TX GRANTED i g
-                return EventRead::BadBody;
+        0x0207 => { // D-TX GRANTED i g
+            if s.len() != 7 {
+                return EventRead::BadBody(2);
+            }
+            let WordField::Is(id) = word_in(s, 4, Word::I) else {
+                return EventRead::BadBody(4);
             };
-            EventRead::Is(Event::DTxGranted {
-                id: f.word,
-                grant: f.first,
-            })
-        }
-        0x0208 => {
-            let Body::Is(f) = word_in(s, Word::I) else { // D-TX CEASED i
-                return EventRead::BadBody;
+            let ByteField::Is(grant) = byte_in(s, 6, Byte::G) else {
+                return EventRead::BadBody(6);
             };
-            EventRead::Is(Event::DTxCeased { id: f.word })
+            EventRead::Is(Event::DTxGranted { id, grant })
         }
-        0x0209 => {
-            let Body::Is(f) = word_byte_in(s, Word::I, Byte::G) else { // D-TX INTERRUPT i g
-                return EventRead::BadBody;
+        0x0208 => { // D-TX CEASED i
+            if s.len() != 6 {
+                return EventRead::BadBody(2);
+            }
+            let WordField::Is(id) = word_in(s, 4, Word::I) else {
+                return EventRead::BadBody(4);
             };
-            EventRead::Is(Event::DTxInterrupt {
-                id: f.word,
-                grant: f.first,
-            })
+            EventRead::Is(Event::DTxCeased { id })
         }
-        0x020A => {
-            let Body::Is(f) = word_in(s, Word::I) else { // D-TX WAIT i
-                return EventRead::BadBody;
+        0x0209 => { // D-TX INTERRUPT i g
+            if s.len() != 7 {
+                return EventRead::BadBody(2);
+            }
+            let WordField::Is(id) = word_in(s, 4, Word::I) else {
+                return EventRead::BadBody(4);
             };
-            EventRead::Is(Event::DTxWait { id: f.word })
-        }
-        0x020B => {
-            let Body::Is(f) = word_byte_in(s, Word::I, Byte::K) else { // D-TX CONTINUE i k
-                return EventRead::BadBody;
+            let ByteField::Is(grant) = byte_in(s, 6, Byte::G) else {
+                return EventRead::BadBody(6);
             };
-            EventRead::Is(Event::DTxContinue {
-                id: f.word,
-                go: f.first,
-            })
+            EventRead::Is(Event::DTxInterrupt { id, grant })
         }
-        0x020C => {
-            let Body::Is(f) = word_byte_byte_byte_in(s, Word::I, Byte::G, Byte::R, Byte::O16) else { // D-CALL RESTORE i g r o
-                return EventRead::BadBody;
+        0x020A => { // D-TX WAIT i
+            if s.len() != 6 {
+                return EventRead::BadBody(2);
+            }
+            let WordField::Is(id) = word_in(s, 4, Word::I) else {
+                return EventRead::BadBody(4);
+            };
+            EventRead::Is(Event::DTxWait { id })
+        }
+        0x020B => { // D-TX CONTINUE i k
+            if s.len() != 7 {
+                return EventRead::BadBody(2);
+            }
+            let WordField::Is(id) = word_in(s, 4, Word::I) else {
+                return EventRead::BadBody(4);
+            };
+            let ByteField::Is(go) = byte_in(s, 6, Byte::K) else {
+                return EventRead::BadBody(6);
+            };
+            EventRead::Is(Event::DTxContinue { id, go })
+        }
+        0x020C => { // D-CALL RESTORE i g r o
+            if s.len() != 9 {
+                return EventRead::BadBody(2);
+            }
+            let WordField::Is(id) = word_in(s, 4, Word::I) else {
+                return EventRead::BadBody(4);
+            };
+            let ByteField::Is(grant) = byte_in(s, 6, Byte::G) else {
+                return EventRead::BadBody(6);
+            };
+            let ByteField::Is(reset) = byte_in(s, 7, Byte::R) else {
+                return EventRead::BadBody(7);
+            };
+            let ByteField::Is(code) = byte_in(s, 8, Byte::O16) else {
+                return EventRead::BadBody(8);
             };
             EventRead::Is(Event::DCallRestore {
-                id: f.word,
-                grant: f.first,
-                reset: f.second,
-                code: f.third,
+                id,
+                grant,
+                reset,
+                code,
             })
         }
-        0x020D => {
-            let Body::Is(f) = word_in(s, Word::I0) else { // D-DISCONNECT i
-                return EventRead::BadBody;
+        0x020D => { // D-DISCONNECT i
+            if s.len() != 6 {
+                return EventRead::BadBody(2);
+            }
+            let WordField::Is(id) = word_in(s, 4, Word::I0) else {
+                return EventRead::BadBody(4);
             };
-            EventRead::Is(Event::DDisconnect { id: f.word })
+            EventRead::Is(Event::DDisconnect { id })
         }
-        0x020E => {
-            let Body::Is(f) = word_in(s, Word::I0) else { // D-RELEASE i
-                return EventRead::BadBody;
+        0x020E => { // D-RELEASE i
+            if s.len() != 6 {
+                return EventRead::BadBody(2);
+            }
+            let WordField::Is(id) = word_in(s, 4, Word::I0) else {
+                return EventRead::BadBody(4);
             };
-            EventRead::Is(Event::DRelease { id: f.word })
+            EventRead::Is(Event::DRelease { id })
         }
-        0x0301 => {
-            let Body::Is(f) = nothing_in(s) else { // REPORT sent
-                return EventRead::BadBody;
-            };
+        0x0301 => { // REPORT sent
+            if s.len() != 4 {
+                return EventRead::BadBody(2);
+            }
             EventRead::Is(Event::ReportSent)
         }
-        0x0302 => {
-            let Body::Is(f) = nothing_in(s) else { // REPORT failed
-                return EventRead::BadBody;
-            };
+        0x0302 => { // REPORT failed
+            if s.len() != 4 {
+                return EventRead::BadBody(2);
+            }
             EventRead::Is(Event::ReportFailed)
         }
-        0x0303 => {
-            let Body::Is(f) = nothing_in(s) else { // BREAK
-                return EventRead::BadBody;
-            };
+        0x0303 => { // BREAK
+            if s.len() != 4 {
+                return EventRead::BadBody(2);
+            }
             EventRead::Is(Event::Break)
         }
-        0x0304 => {
-            let Body::Is(f) = nothing_in(s) else { // RESUME
-                return EventRead::BadBody;
-            };
+        0x0304 => { // RESUME
+            if s.len() != 4 {
+                return EventRead::BadBody(2);
+            }
             EventRead::Is(Event::Resume)
         }
-        0x0401 => {
-            let Body::Is(f) = word_in(s, Word::N) else { // expiry n
-                return EventRead::BadBody;
+        0x0401 => { // expiry n
+            if s.len() != 6 {
+                return EventRead::BadBody(2);
+            }
+            let WordField::Is(timer) = word_in(s, 4, Word::N) else {
+                return EventRead::BadBody(4);
             };
-            EventRead::Is(Event::Expiry { timer: f.word })
+            EventRead::Is(Event::Expiry { timer })
         }
         _ => EventRead::UnknownKind,
     }
@@ -332,7 +416,7 @@ fn read_kind(kind: u16, s: &[u8]) -> EventRead
 pub fn read_event(s: &[u8]) -> EventRead
     ensures { λ r. ⌜ asEventRead r ≡ read events (now (s .entry)) ⌝ }
 {
-    let Frame::Kind(kind) = kind_in(s) else {
+    let Head::Kind(kind) = kind_in(s) else {
         return EventRead::BadLength;
     };
     read_kind(kind, s)

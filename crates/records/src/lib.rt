@@ -2,5 +2,6 @@
 // value, and what is read is written back as the same bytes (proofs/RoundTrip).
 pub mod bodies;
 pub mod events;
+mod fields;
 pub mod letters;
 pub mod messages;

@@ -5,23 +5,22 @@ ghost use Prim.Native.Nat.{ℕ};
 ghost use Rattle.records.specs.Bodies.{Wrote, asWrote, partsOf, laid, laidNext};
 ghost use Rattle.records.specs.Tables.{read, readAs, flat, write};
 ghost use Rattle.records.specs.Messages.{messages, asMessageRead, startAgrees, messageAgrees, messageBytes, messageSize};
-use crate::bodies::Body;
 use crate::bodies::Fields;
-use crate::bodies::Frame;
+use crate::bodies::Head;
 use crate::bodies::Parts;
 use crate::bodies::Shape;
 use crate::bodies::Written;
-use crate::bodies::byte_in;
 use crate::bodies::kind_in;
 use crate::bodies::lay_parts;
-use crate::bodies::long_byte_byte_in;
-use crate::bodies::nothing_in;
 use crate::bodies::parts_fit;
 use crate::bodies::parts_size;
-use crate::bodies::word_byte_in;
-use crate::bodies::word_in;
-use crate::bodies::word_long_byte_in;
 use crate::bodies::write_parts;
+use crate::fields::ByteField;
+use crate::fields::LongField;
+use crate::fields::WordField;
+use crate::fields::byte_in;
+use crate::fields::long_in;
+use crate::fields::word_in;
 use crate::letters::Byte;
 use crate::letters::Long;
 use crate::letters::Word;
@@ -71,12 +70,12 @@ pub enum Message {
     ModifyIndication { mode: u8 },
 }
 
-// What reading finds: the value, or the paper's refusals 2, 3 and 4.
+// What reading finds: the value, or the paper's refusals 2, 3 and 4; 4 with the place of the first wrong field, or 2 for the body's size.
 pub enum MessageRead {
     Is(Message),
     BadLength,
     UnknownKind,
-    BadBody,
+    BadBody(u8),
 }
 
 // The code of a START: T310 has one, every other timer 0.
@@ -103,158 +102,215 @@ fn read_kind(kind: u16, s: &[u8]) -> MessageRead
     ensures { λ r. ⌜ asMessageRead r ≡ readAs messages kind (now (s .entry)) ⌝ }
 {
     match kind {
-        0x0501 => {
-            let Body::Is(f) = long_byte_byte_in(s, Long::A1, Byte::D, Byte::Q) else { // U-SETUP a d q
-                return MessageRead::BadBody;
-            };
-            MessageRead::Is(Message::USetup {
-                address: f.long,
-                mode: f.first,
-                ask: f.second,
-            })
-        }
-        0x0502 => {
-            let Body::Is(f) = word_in(s, Word::I) else { // U-CONNECT i
-                return MessageRead::BadBody;
-            };
-            MessageRead::Is(Message::UConnect { id: f.word })
-        }
-        0x0503 => {
-            let Body::Is(f) = word_byte_in(s, Word::I0, Byte::C) else { // U-DISCONNECT i c
-                return MessageRead::BadBody;
-            };
-            MessageRead::Is(Message::UDisconnect {
-                id: f.word,
-                cause: f.first,
-            })
-        }
-        0x0504 => {
-            let Body::Is(f) = word_in(s, Word::I0) else { // U-RELEASE i
-                return MessageRead::BadBody;
-            };
-            MessageRead::Is(Message::URelease { id: f.word })
-        }
-        0x0505 => {
-            let Body::Is(f) = word_byte_in(s, Word::I, Byte::D) else { // U-INFO i d
-                return MessageRead::BadBody;
-            };
-            MessageRead::Is(Message::UInfo {
-                id: f.word,
-                mode: f.first,
-            })
-        }
-        0x0506 => {
-            let Body::Is(f) = word_in(s, Word::I) else { // U-TX DEMAND i
-                return MessageRead::BadBody;
-            };
-            MessageRead::Is(Message::UTxDemand { id: f.word })
-        }
-        0x0507 => {
-            let Body::Is(f) = word_in(s, Word::I) else { // U-TX CEASED i
-                return MessageRead::BadBody;
-            };
-            MessageRead::Is(Message::UTxCeased { id: f.word })
-        }
-        0x0508 => {
-            let Body::Is(f) = word_long_byte_in(s, Word::I, Long::A, Byte::Q) else { // U-CALL RESTORE i a q
-                return MessageRead::BadBody;
-            };
-            MessageRead::Is(Message::UCallRestore {
-                id: f.word,
-                address: f.long,
-                ask: f.first,
-            })
-        }
-        0x0601 => {
-            let Body::Is(f) = word_in(s, Word::N) else { // STOP n
-                return MessageRead::BadBody;
-            };
-            MessageRead::Is(Message::Stop { timer: f.word })
-        }
-        0x0602 => {
-            let Body::Is(f) = word_byte_in(s, Word::N, Byte::O) else { // START n o
-                return MessageRead::BadBody;
-            };
-            if !start_agrees(f.word, f.first) {
-                return MessageRead::BadBody;
+        0x0501 => { // U-SETUP a d q
+            if s.len() != 10 {
+                return MessageRead::BadBody(2);
             }
-            MessageRead::Is(Message::Start {
-                timer: f.word,
-                code: f.first,
-            })
-        }
-        0x0603 => {
-            let Body::Is(f) = byte_in(s, Byte::P) else { // CONFIGURE p
-                return MessageRead::BadBody;
+            let LongField::Is(address) = long_in(s, 4, Long::A1) else {
+                return MessageRead::BadBody(4);
             };
-            MessageRead::Is(Message::Configure { plane: f.first })
-        }
-        0x0604 => {
-            let Body::Is(f) = nothing_in(s) else { // CANCEL
-                return MessageRead::BadBody;
+            let ByteField::Is(mode) = byte_in(s, 8, Byte::D) else {
+                return MessageRead::BadBody(8);
             };
+            let ByteField::Is(ask) = byte_in(s, 9, Byte::Q) else {
+                return MessageRead::BadBody(9);
+            };
+            MessageRead::Is(Message::USetup { address, mode, ask })
+        }
+        0x0502 => { // U-CONNECT i
+            if s.len() != 6 {
+                return MessageRead::BadBody(2);
+            }
+            let WordField::Is(id) = word_in(s, 4, Word::I) else {
+                return MessageRead::BadBody(4);
+            };
+            MessageRead::Is(Message::UConnect { id })
+        }
+        0x0503 => { // U-DISCONNECT i c
+            if s.len() != 7 {
+                return MessageRead::BadBody(2);
+            }
+            let WordField::Is(id) = word_in(s, 4, Word::I0) else {
+                return MessageRead::BadBody(4);
+            };
+            let ByteField::Is(cause) = byte_in(s, 6, Byte::C) else {
+                return MessageRead::BadBody(6);
+            };
+            MessageRead::Is(Message::UDisconnect { id, cause })
+        }
+        0x0504 => { // U-RELEASE i
+            if s.len() != 6 {
+                return MessageRead::BadBody(2);
+            }
+            let WordField::Is(id) = word_in(s, 4, Word::I0) else {
+                return MessageRead::BadBody(4);
+            };
+            MessageRead::Is(Message::URelease { id })
+        }
+        0x0505 => { // U-INFO i d
+            if s.len() != 7 {
+                return MessageRead::BadBody(2);
+            }
+            let WordField::Is(id) = word_in(s, 4, Word::I) else {
+                return MessageRead::BadBody(4);
+            };
+            let ByteField::Is(mode) = byte_in(s, 6, Byte::D) else {
+                return MessageRead::BadBody(6);
+            };
+            MessageRead::Is(Message::UInfo { id, mode })
+        }
+        0x0506 => { // U-TX DEMAND i
+            if s.len() != 6 {
+                return MessageRead::BadBody(2);
+            }
+            let WordField::Is(id) = word_in(s, 4, Word::I) else {
+                return MessageRead::BadBody(4);
+            };
+            MessageRead::Is(Message::UTxDemand { id })
+        }
+        0x0507 => { // U-TX CEASED i
+            if s.len() != 6 {
+                return MessageRead::BadBody(2);
+            }
+            let WordField::Is(id) = word_in(s, 4, Word::I) else {
+                return MessageRead::BadBody(4);
+            };
+            MessageRead::Is(Message::UTxCeased { id })
+        }
+        0x0508 => { // U-CALL RESTORE i a q
+            if s.len() != 11 {
+                return MessageRead::BadBody(2);
+            }
+            let WordField::Is(id) = word_in(s, 4, Word::I) else {
+                return MessageRead::BadBody(4);
+            };
+            let LongField::Is(address) = long_in(s, 6, Long::A) else {
+                return MessageRead::BadBody(6);
+            };
+            let ByteField::Is(ask) = byte_in(s, 10, Byte::Q) else {
+                return MessageRead::BadBody(10);
+            };
+            MessageRead::Is(Message::UCallRestore { id, address, ask })
+        }
+        0x0601 => { // STOP n
+            if s.len() != 6 {
+                return MessageRead::BadBody(2);
+            }
+            let WordField::Is(timer) = word_in(s, 4, Word::N) else {
+                return MessageRead::BadBody(4);
+            };
+            MessageRead::Is(Message::Stop { timer })
+        }
+        0x0602 => { // START n o
+            if s.len() != 7 {
+                return MessageRead::BadBody(2);
+            }
+            let WordField::Is(timer) = word_in(s, 4, Word::N) else {
+                return MessageRead::BadBody(4);
+            };
+            let ByteField::Is(code) = byte_in(s, 6, Byte::O) else {
+                return MessageRead::BadBody(6);
+            };
+            if !start_agrees(timer, code) {
+                return MessageRead::BadBody(6);
+            }
+            MessageRead::Is(Message::Start { timer, code })
+        }
+        0x0603 => { // CONFIGURE p
+            if s.len() != 5 {
+                return MessageRead::BadBody(2);
+            }
+            let ByteField::Is(plane) = byte_in(s, 4, Byte::P) else {
+                return MessageRead::BadBody(4);
+            };
+            MessageRead::Is(Message::Configure { plane })
+        }
+        0x0604 => { // CANCEL
+            if s.len() != 4 {
+                return MessageRead::BadBody(2);
+            }
             MessageRead::Is(Message::Cancel)
         }
-        0x0701 => {
-            let Body::Is(f) = word_long_byte_in(s, Word::I, Long::A, Byte::D) else { // SETUP indication i a d
-                return MessageRead::BadBody;
+        0x0701 => { // SETUP indication i a d
+            if s.len() != 11 {
+                return MessageRead::BadBody(2);
+            }
+            let WordField::Is(id) = word_in(s, 4, Word::I) else {
+                return MessageRead::BadBody(4);
             };
-            MessageRead::Is(Message::SetupIndication {
-                id: f.word,
-                address: f.long,
-                mode: f.first,
-            })
+            let LongField::Is(address) = long_in(s, 6, Long::A) else {
+                return MessageRead::BadBody(6);
+            };
+            let ByteField::Is(mode) = byte_in(s, 10, Byte::D) else {
+                return MessageRead::BadBody(10);
+            };
+            MessageRead::Is(Message::SetupIndication { id, address, mode })
         }
-        0x0702 => {
-            let Body::Is(f) = word_byte_in(s, Word::I, Byte::G) else { // SETUP confirm i g
-                return MessageRead::BadBody;
+        0x0702 => { // SETUP confirm i g
+            if s.len() != 7 {
+                return MessageRead::BadBody(2);
+            }
+            let WordField::Is(id) = word_in(s, 4, Word::I) else {
+                return MessageRead::BadBody(4);
             };
-            MessageRead::Is(Message::SetupConfirm {
-                id: f.word,
-                grant: f.first,
-            })
+            let ByteField::Is(grant) = byte_in(s, 6, Byte::G) else {
+                return MessageRead::BadBody(6);
+            };
+            MessageRead::Is(Message::SetupConfirm { id, grant })
         }
-        0x0703 => {
-            let Body::Is(f) = nothing_in(s) else { // PROCEED
-                return MessageRead::BadBody;
-            };
+        0x0703 => { // PROCEED
+            if s.len() != 4 {
+                return MessageRead::BadBody(2);
+            }
             MessageRead::Is(Message::Proceed)
         }
-        0x0704 => {
-            let Body::Is(f) = nothing_in(s) else { // ALERT
-                return MessageRead::BadBody;
-            };
+        0x0704 => { // ALERT
+            if s.len() != 4 {
+                return MessageRead::BadBody(2);
+            }
             MessageRead::Is(Message::Alert)
         }
-        0x0705 => {
-            let Body::Is(f) = byte_in(s, Byte::G) else { // COMPLETE g
-                return MessageRead::BadBody;
+        0x0705 => { // COMPLETE g
+            if s.len() != 5 {
+                return MessageRead::BadBody(2);
+            }
+            let ByteField::Is(grant) = byte_in(s, 4, Byte::G) else {
+                return MessageRead::BadBody(4);
             };
-            MessageRead::Is(Message::Complete { grant: f.first })
+            MessageRead::Is(Message::Complete { grant })
         }
-        0x0706 => {
-            let Body::Is(f) = byte_in(s, Byte::C) else { // RELEASE indication c
-                return MessageRead::BadBody;
+        0x0706 => { // RELEASE indication c
+            if s.len() != 5 {
+                return MessageRead::BadBody(2);
+            }
+            let ByteField::Is(cause) = byte_in(s, 4, Byte::C) else {
+                return MessageRead::BadBody(4);
             };
-            MessageRead::Is(Message::ReleaseIndication { cause: f.first })
+            MessageRead::Is(Message::ReleaseIndication { cause })
         }
-        0x0707 => {
-            let Body::Is(f) = nothing_in(s) else { // RELEASE confirm
-                return MessageRead::BadBody;
-            };
+        0x0707 => { // RELEASE confirm
+            if s.len() != 4 {
+                return MessageRead::BadBody(2);
+            }
             MessageRead::Is(Message::ReleaseConfirm)
         }
-        0x0708 => {
-            let Body::Is(f) = byte_in(s, Byte::X) else { // TX indication x
-                return MessageRead::BadBody;
+        0x0708 => { // TX indication x
+            if s.len() != 5 {
+                return MessageRead::BadBody(2);
+            }
+            let ByteField::Is(told) = byte_in(s, 4, Byte::X) else {
+                return MessageRead::BadBody(4);
             };
-            MessageRead::Is(Message::TxIndication { told: f.first })
+            MessageRead::Is(Message::TxIndication { told })
         }
-        0x0709 => {
-            let Body::Is(f) = byte_in(s, Byte::D) else { // MODIFY indication d
-                return MessageRead::BadBody;
+        0x0709 => { // MODIFY indication d
+            if s.len() != 5 {
+                return MessageRead::BadBody(2);
+            }
+            let ByteField::Is(mode) = byte_in(s, 4, Byte::D) else {
+                return MessageRead::BadBody(4);
             };
-            MessageRead::Is(Message::ModifyIndication { mode: f.first })
+            MessageRead::Is(Message::ModifyIndication { mode })
         }
         _ => MessageRead::UnknownKind,
     }
@@ -264,7 +320,7 @@ fn read_kind(kind: u16, s: &[u8]) -> MessageRead
 pub fn read_message(s: &[u8]) -> MessageRead
     ensures { λ r. ⌜ asMessageRead r ≡ read messages (now (s .entry)) ⌝ }
 {
-    let Frame::Kind(kind) = kind_in(s) else {
+    let Head::Kind(kind) = kind_in(s) else {
         return MessageRead::BadLength;
     };
     read_kind(kind, s)

@@ -1,5 +1,5 @@
 //! The account behind the host boundary: the same six functions as the library, over slices, each
-//! returning answer * 65536 + count.
+//! returning answer * 2^24 + place * 2^16 + count.
 
 use super::{Call, Event, Message, Refusal, RECORD_LEN};
 
@@ -8,7 +8,7 @@ use super::{Call, Event, Message, Refusal, RECORD_LEN};
 pub fn word(result: Result<usize, Refusal>) -> u32 {
     match result {
         Ok(count) => count as u32,
-        Err(refusal) => (refusal as u32) << 16,
+        Err(refusal) => u32::from(refusal.number()) << 24 | u32::from(refusal.place()) << 16,
     }
 }
 

@@ -18,22 +18,45 @@ pub use call::{Call, Path, State, RECORD_LEN};
 pub use history::History;
 pub use records::{Cause, Event, Grant, Message, Mode, Plane, Timer};
 
-/// Why something was not taken, by the numbers of the table of answers; 0 is `Ok`.
+/// Why something was not taken; 0 is `Ok`.
 #[derive(Clone, Copy, Debug, PartialEq, Eq)]
-#[repr(u8)]
 pub enum Refusal {
     /// 1: record not sound.
-    NotSound = 1,
+    NotSound,
     /// 2: under 4 bytes handed in, or length field differs from the bytes handed in.
-    Length = 2,
+    Length,
     /// 3: kind is no event kind (for messages: no message kind).
-    Kind = 3,
-    /// 4: body size or a field out of range.
-    Field = 4,
+    Kind,
+    /// 4: body size or a field out of range. A reader gives the byte offset in the record of the
+    /// first bad field, or 2 for the size; a writer gives 0.
+    Field { place: u8 },
     /// 5: network event but D-SETUP, whose i differs from the held one.
-    Identifier = 5,
+    Identifier,
     /// 6: no row for this state.
-    NoRow = 6,
+    NoRow,
     /// 7: messages longer than the lent buffer.
-    Buffer = 7,
+    Buffer,
+}
+
+impl Refusal {
+    /// By the table of answers.
+    pub const fn number(self) -> u8 {
+        match self {
+            Refusal::NotSound => 1,
+            Refusal::Length => 2,
+            Refusal::Kind => 3,
+            Refusal::Field { .. } => 4,
+            Refusal::Identifier => 5,
+            Refusal::NoRow => 6,
+            Refusal::Buffer => 7,
+        }
+    }
+
+    /// Which field was wrong; 0 with every answer but 4.
+    pub const fn place(self) -> u8 {
+        match self {
+            Refusal::Field { place } => place,
+            _ => 0,
+        }
+    }
 }

@@ -147,49 +147,68 @@ pub enum Message {
 
 impl Event {
     pub fn read(bytes: &[u8]) -> Result<Event, Refusal> {
-        let (kind, mut body) = open(bytes)?;
-        let event = match kind {
-            0x0101 => Event::SetupRequest { a: body.a_known()?, d: body.d()?, q: body.flag()? },
-            0x0102 => Event::SetupResponse,
-            0x0103 => Event::ReleaseRequest,
-            0x0104 => Event::TxRequest { k: body.flag()? },
-            0x0105 => Event::ModifyRequest { d: body.d()? },
-            0x0201 => Event::DCallProceeding { i: body.i()? },
-            0x0202 => Event::DAlert { i: body.i()? },
-            0x0203 => Event::DConnect { i: body.i()?, g: body.g()?, d: body.d()?, o: body.o()? },
-            0x0204 => Event::DConnectAcknowledge { i: body.i()?, g: body.g()?, o: body.o()? },
-            0x0205 => Event::DSetup { i: body.i()?, a: body.a()?, d: body.d()? },
-            0x0206 => {
-                Event::DInfo { i: body.i()?, r: body.flag()?, o: body.o_or_absent()?, d: body.d()? }
+        let (kind, body) = open(bytes)?;
+        // The size is checked before the fields, and these from left to right.
+        Ok(match kind {
+            0x0101 => {
+                let mut b = body.of(6)?;
+                Event::SetupRequest { a: b.a_known()?, d: b.d()?, q: b.flag()? }
             }
-            0x0207 => Event::DTxGranted { i: body.i()?, g: body.g()? },
-            0x0208 => Event::DTxCeased { i: body.i()? },
-            0x0209 => Event::DTxInterrupt { i: body.i()?, g: body.g()? },
-            0x020A => Event::DTxWait { i: body.i()? },
-            0x020B => Event::DTxContinue { i: body.i()?, k: body.flag()? },
-            0x020C => Event::DCallRestore {
-                i: body.i()?,
-                g: body.g()?,
-                r: body.flag()?,
-                o: body.o_or_absent()?,
-            },
-            0x020D => Event::DDisconnect { i: body.i_or_zero()? },
-            0x020E => Event::DRelease { i: body.i_or_zero()? },
-            0x0301 => Event::ReportSent,
-            0x0302 => Event::ReportFailed,
-            0x0303 => Event::Break,
-            0x0304 => Event::Resume,
-            0x0401 => Event::Expiry { n: body.n()? },
+            0x0102 => body.of(0).map(|_| Event::SetupResponse)?,
+            0x0103 => body.of(0).map(|_| Event::ReleaseRequest)?,
+            0x0104 => Event::TxRequest { k: body.of(1)?.flag()? },
+            0x0105 => Event::ModifyRequest { d: body.of(1)?.d()? },
+            0x0201 => Event::DCallProceeding { i: body.of(2)?.i()? },
+            0x0202 => Event::DAlert { i: body.of(2)?.i()? },
+            0x0203 => {
+                let mut b = body.of(5)?;
+                Event::DConnect { i: b.i()?, g: b.g()?, d: b.d()?, o: b.o()? }
+            }
+            0x0204 => {
+                let mut b = body.of(4)?;
+                Event::DConnectAcknowledge { i: b.i()?, g: b.g()?, o: b.o()? }
+            }
+            0x0205 => {
+                let mut b = body.of(7)?;
+                Event::DSetup { i: b.i()?, a: b.a()?, d: b.d()? }
+            }
+            0x0206 => {
+                let mut b = body.of(5)?;
+                Event::DInfo { i: b.i()?, r: b.flag()?, o: b.o_or_absent()?, d: b.d()? }
+            }
+            0x0207 => {
+                let mut b = body.of(3)?;
+                Event::DTxGranted { i: b.i()?, g: b.g()? }
+            }
+            0x0208 => Event::DTxCeased { i: body.of(2)?.i()? },
+            0x0209 => {
+                let mut b = body.of(3)?;
+                Event::DTxInterrupt { i: b.i()?, g: b.g()? }
+            }
+            0x020A => Event::DTxWait { i: body.of(2)?.i()? },
+            0x020B => {
+                let mut b = body.of(3)?;
+                Event::DTxContinue { i: b.i()?, k: b.flag()? }
+            }
+            0x020C => {
+                let mut b = body.of(5)?;
+                Event::DCallRestore { i: b.i()?, g: b.g()?, r: b.flag()?, o: b.o_or_absent()? }
+            }
+            0x020D => Event::DDisconnect { i: body.of(2)?.i_or_zero()? },
+            0x020E => Event::DRelease { i: body.of(2)?.i_or_zero()? },
+            0x0301 => body.of(0).map(|_| Event::ReportSent)?,
+            0x0302 => body.of(0).map(|_| Event::ReportFailed)?,
+            0x0303 => body.of(0).map(|_| Event::Break)?,
+            0x0304 => body.of(0).map(|_| Event::Resume)?,
+            0x0401 => Event::Expiry { n: body.of(2)?.n()? },
             _ => return Err(Refusal::Kind),
-        };
-        body.end()?;
-        Ok(event)
+        })
     }
 
     /// Writes the record to the front of `out` and gives its length.
     pub fn write(&self, out: &mut [u8]) -> Result<usize, Refusal> {
         if !self.in_range() {
-            return Err(Refusal::Field);
+            return Err(Refusal::Field { place: 0 });
         }
         write(self, out)
     }
@@ -308,42 +327,59 @@ impl Put for Event {
 
 impl Message {
     pub fn read(bytes: &[u8]) -> Result<Message, Refusal> {
-        let (kind, mut body) = open(bytes)?;
-        let message = match kind {
-            0x0501 => Message::USetup { a: body.a_known()?, d: body.d()?, q: body.flag()? },
-            0x0502 => Message::UConnect { i: body.i()? },
-            0x0503 => Message::UDisconnect { i: body.i_or_zero()?, c: body.c()? },
-            0x0504 => Message::URelease { i: body.i_or_zero()? },
-            0x0505 => Message::UInfo { i: body.i()?, d: body.d()? },
-            0x0506 => Message::UTxDemand { i: body.i()? },
-            0x0507 => Message::UTxCeased { i: body.i()? },
-            0x0508 => Message::UCallRestore { i: body.i()?, a: body.a()?, q: body.flag()? },
-            0x0601 => Message::Stop { n: body.n()? },
-            0x0602 => {
-                let n = body.n()?;
-                Message::Start { n, o: body.o_of(n)? }
+        let (kind, body) = open(bytes)?;
+        Ok(match kind {
+            0x0501 => {
+                let mut b = body.of(6)?;
+                Message::USetup { a: b.a_known()?, d: b.d()?, q: b.flag()? }
             }
-            0x0603 => Message::Configure { p: body.p()? },
-            0x0604 => Message::Cancel,
-            0x0701 => Message::SetupIndication { i: body.i()?, a: body.a()?, d: body.d()? },
-            0x0702 => Message::SetupConfirm { i: body.i()?, g: body.g()? },
-            0x0703 => Message::Proceed,
-            0x0704 => Message::Alert,
-            0x0705 => Message::Complete { g: body.g()? },
-            0x0706 => Message::ReleaseIndication { c: body.c()? },
-            0x0707 => Message::ReleaseConfirm,
-            0x0708 => Message::TxIndication { x: body.x()? },
-            0x0709 => Message::ModifyIndication { d: body.d()? },
+            0x0502 => Message::UConnect { i: body.of(2)?.i()? },
+            0x0503 => {
+                let mut b = body.of(3)?;
+                Message::UDisconnect { i: b.i_or_zero()?, c: b.c()? }
+            }
+            0x0504 => Message::URelease { i: body.of(2)?.i_or_zero()? },
+            0x0505 => {
+                let mut b = body.of(3)?;
+                Message::UInfo { i: b.i()?, d: b.d()? }
+            }
+            0x0506 => Message::UTxDemand { i: body.of(2)?.i()? },
+            0x0507 => Message::UTxCeased { i: body.of(2)?.i()? },
+            0x0508 => {
+                let mut b = body.of(7)?;
+                Message::UCallRestore { i: b.i()?, a: b.a()?, q: b.flag()? }
+            }
+            0x0601 => Message::Stop { n: body.of(2)?.n()? },
+            0x0602 => {
+                let mut b = body.of(3)?;
+                let n = b.n()?;
+                Message::Start { n, o: b.o_of(n)? }
+            }
+            0x0603 => Message::Configure { p: body.of(1)?.p()? },
+            0x0604 => body.of(0).map(|_| Message::Cancel)?,
+            0x0701 => {
+                let mut b = body.of(7)?;
+                Message::SetupIndication { i: b.i()?, a: b.a()?, d: b.d()? }
+            }
+            0x0702 => {
+                let mut b = body.of(3)?;
+                Message::SetupConfirm { i: b.i()?, g: b.g()? }
+            }
+            0x0703 => body.of(0).map(|_| Message::Proceed)?,
+            0x0704 => body.of(0).map(|_| Message::Alert)?,
+            0x0705 => Message::Complete { g: body.of(1)?.g()? },
+            0x0706 => Message::ReleaseIndication { c: body.of(1)?.c()? },
+            0x0707 => body.of(0).map(|_| Message::ReleaseConfirm)?,
+            0x0708 => Message::TxIndication { x: body.of(1)?.x()? },
+            0x0709 => Message::ModifyIndication { d: body.of(1)?.d()? },
             _ => return Err(Refusal::Kind),
-        };
-        body.end()?;
-        Ok(message)
+        })
     }
 
     /// Writes the record to the front of `out` and gives its length.
     pub fn write(&self, out: &mut [u8]) -> Result<usize, Refusal> {
         if !self.in_range() {
-            return Err(Refusal::Field);
+            return Err(Refusal::Field { place: 0 });
         }
         write(self, out)
     }
@@ -487,107 +523,107 @@ fn open(bytes: &[u8]) -> Result<(u16, Body<'_>), Refusal> {
     if u16::from_le_bytes([l0, l1]) as usize != bytes.len() {
         return Err(Refusal::Length);
     }
-    Ok((u16::from_le_bytes([k0, k1]), Body(body)))
+    Ok((u16::from_le_bytes([k0, k1]), Body { rest: body, at: HEAD_LEN as u8 }))
 }
 
 /// The body of a record, read letter by letter.
-struct Body<'a>(&'a [u8]);
+struct Body<'a> {
+    rest: &'a [u8],
+    /// Where the rest begins in the record.
+    at: u8,
+}
 
-impl Body<'_> {
+impl<'a> Body<'a> {
+    /// This body, if it has the size that its kind asks for.
     #[inline]
-    fn take<const N: usize>(&mut self) -> Result<[u8; N], Refusal> {
-        let (letter, rest) = self.0.split_first_chunk().ok_or(Refusal::Field)?;
-        self.0 = rest;
-        Ok(*letter)
+    fn of(self, size: usize) -> Result<Body<'a>, Refusal> {
+        if self.rest.len() == size {
+            Ok(self)
+        } else {
+            Err(Refusal::Field { place: 2 })
+        }
     }
 
-    fn u8(&mut self) -> Result<u8, Refusal> {
-        let [byte] = self.take()?;
-        Ok(byte)
+    /// The next letter, of N bytes, if `value` makes something of them; else its place is the bad one.
+    #[inline]
+    fn letter<const N: usize, T>(
+        &mut self,
+        value: impl FnOnce([u8; N]) -> Option<T>,
+    ) -> Result<T, Refusal> {
+        let bad = Refusal::Field { place: self.at };
+        let (letter, rest) = self.rest.split_first_chunk().ok_or(bad)?;
+        self.rest = rest;
+        self.at += N as u8;
+        value(*letter).ok_or(bad)
+    }
+
+    fn byte<T>(&mut self, value: impl FnOnce(u8) -> Option<T>) -> Result<T, Refusal> {
+        self.letter(|[byte]| value(byte))
     }
 
     fn i_or_zero(&mut self) -> Result<u16, Refusal> {
-        let i = u16::from_le_bytes(self.take()?);
-        in_range(i, identifier_or_zero(i))
+        self.letter(|i| Some(u16::from_le_bytes(i)).filter(|&i| identifier_or_zero(i)))
     }
 
     fn i(&mut self) -> Result<u16, Refusal> {
-        let i = u16::from_le_bytes(self.take()?);
-        in_range(i, identifier(i))
+        self.letter(|i| Some(u16::from_le_bytes(i)).filter(|&i| identifier(i)))
     }
 
     fn a(&mut self) -> Result<u32, Refusal> {
-        let a = u32::from_le_bytes(self.take()?);
-        in_range(a, address(a))
+        self.letter(|a| Some(u32::from_le_bytes(a)).filter(|&a| address(a)))
     }
 
     fn a_known(&mut self) -> Result<u32, Refusal> {
-        let a = u32::from_le_bytes(self.take()?);
-        in_range(a, address_known(a))
+        self.letter(|a| Some(u32::from_le_bytes(a)).filter(|&a| address_known(a)))
     }
 
     fn g(&mut self) -> Result<Grant, Refusal> {
-        Grant::from_number(self.u8()?).ok_or(Refusal::Field)
+        self.byte(Grant::from_number)
     }
 
     fn d(&mut self) -> Result<Mode, Refusal> {
-        Mode::from_number(self.u8()?).ok_or(Refusal::Field)
+        self.byte(Mode::from_number)
     }
 
     /// q, r or k.
     fn flag(&mut self) -> Result<bool, Refusal> {
-        let byte = self.u8()?;
-        in_range(byte == 1, byte <= 1)
+        self.byte(|flag| match flag {
+            0 => Some(false),
+            1 => Some(true),
+            _ => None,
+        })
     }
 
     fn o(&mut self) -> Result<u8, Refusal> {
-        let o = self.u8()?;
-        in_range(o, t310_code(o))
+        self.byte(|o| Some(o).filter(|&o| t310_code(o)))
     }
 
     fn o_or_absent(&mut self) -> Result<Option<u8>, Refusal> {
-        match self.u8()? {
-            ABSENT_T310_CODE => Ok(None),
-            o => in_range(Some(o), t310_code(o)),
-        }
+        self.byte(|o| match o {
+            ABSENT_T310_CODE => Some(None),
+            o => Some(Some(o)).filter(|_| t310_code(o)),
+        })
     }
 
     /// The o of START n.
     fn o_of(&mut self, n: Timer) -> Result<u8, Refusal> {
-        let o = self.u8()?;
-        in_range(o, start_code(n, o))
+        self.byte(|o| Some(o).filter(|&o| start_code(n, o)))
     }
 
     fn n(&mut self) -> Result<Timer, Refusal> {
-        Timer::from_timer_number(u16::from_le_bytes(self.take()?)).ok_or(Refusal::Field)
+        self.letter(|n| Timer::from_timer_number(u16::from_le_bytes(n)))
     }
 
     fn c(&mut self) -> Result<Cause, Refusal> {
-        Cause::from_number(self.u8()?).ok_or(Refusal::Field)
+        self.byte(Cause::from_number)
     }
 
     fn p(&mut self) -> Result<Plane, Refusal> {
-        Plane::from_number(self.u8()?).ok_or(Refusal::Field)
+        self.byte(Plane::from_number)
     }
 
     fn x(&mut self) -> Result<u8, Refusal> {
-        let x = self.u8()?;
-        in_range(x, x <= MAX_TX_INDICATION)
-    }
-
-    /// Nothing may be left over.
-    #[inline]
-    fn end(self) -> Result<(), Refusal> {
-        in_range((), self.0.is_empty())
-    }
-}
-
-#[inline]
-fn in_range<T>(value: T, allowed: bool) -> Result<T, Refusal> {
-    if allowed {
-        Ok(value)
-    } else {
-        Err(Refusal::Field)
+        self.byte(|x| Some(x).filter(|&x| x <= MAX_TX_INDICATION))
     }
 }
 

@@ -20,7 +20,7 @@ refuses : (r : EventRead) (out : List ℕ) → OneOf (1 ∷ 2 ∷ 3 ∷ []) (Dec
 refuses (EventRead.Is v) out k = absurd (miss (1 ∷ 2 ∷ 3 ∷ []) 0 tt k)
 refuses EventRead.BadLength out k = refl
 refuses EventRead.UnknownKind out k = refl
-refuses EventRead.BadBody out k = refl
+refuses (EventRead.BadBody place) out k = refl
 
 pub callcontrol-copy-event-spec : {M : Type 1} → statement M
 unfolding copied

@@ -20,7 +20,7 @@ refuses : (r : MessageRead) (out : List ℕ) → OneOf (1 ∷ 2 ∷ 3 ∷ []) (D
 refuses (MessageRead.Is v) out k = absurd (miss (1 ∷ 2 ∷ 3 ∷ []) 0 tt k)
 refuses MessageRead.BadLength out k = refl
 refuses MessageRead.UnknownKind out k = refl
-refuses MessageRead.BadBody out k = refl
+refuses (MessageRead.BadBody place) out k = refl
 
 pub callcontrol-copy-message-spec : {M : Type 1} → statement M
 unfolding copied

@@ -18,16 +18,19 @@ callcontrol-step-spec =
     (λ c κs. search needs)
     (λ c. search needs)
     (λ c. search needs)
-    (λ c. omega (arith, step-small _ _ _ (c .before .before .before .before .before .step .ensures)))
-    (λ c. omega (arith, step-small _ _ _ (c .before .before .before .before .before .step .ensures)))
+    (λ c. search needs)
+    (λ c. search needs)
+    (λ c. search needs)
+    (λ c. omega (arith, step-small _ _ _ (c .before .before .before .before .before .before .step .ensures)))
+    (λ c. omega (arith, step-small _ _ _ (c .before .before .before .before .before .before .step .ensures)))
     (λ c κs.
-    let g = c .before .before .before .before .before .before .before .before .before .before .before in
+    let g = c .before .before .before .before .before .before .before .before .before .before .before .before in
     record-length _ (g .before .is-record .ensures) (g .if1 .left))
     (λ c. search needs)
     (λ c. search needs)
     (λ c.
     let p = c .before .before in
-    let n = p .before .before .before .before in
+    let n = p .before .before .before .before .before in
     let t = n .before .before .before .before in
     let h = t .before .before in
     let g = h .before .before in
@@ -36,7 +39,7 @@ callcontrol-step-spec =
     (λ c. search needs)
     (λ c. search needs)
     (λ c.
-    let n = c .before .before in
+    let n = c .before .before .before in
     let t = n .before .before .before .before in
     let h = t .before .before in
     let g = h .before .before in

@@ -98,7 +98,7 @@ pub fn main() {
     let mut answers = [0u32; 8];
     let mut record = Call::FRESH.pack();
     for event in tape.events() {
-        answers[(boundary::step(&mut record, event, &mut [0; OUT_LEN]) >> 16) as usize] += 1;
+        answers[(boundary::step(&mut record, event, &mut [0; OUT_LEN]) >> 24) as usize] += 1;
     }
     println!("tape: {EVENTS} events from fresh, by answer 0..7: {answers:?}");
 

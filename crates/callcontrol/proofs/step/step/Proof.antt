@@ -10,17 +10,17 @@ use Rattle.records.specs.declared.events.EventRead.{EventRead}
 use Rattle.records.specs.Events.{asEventRead}
 use Rattle.records.proofs.events.EventRead as event-read
 use Rattle.callcontrol.specs.declared.call.Call.{Call}
-use Rattle.callcontrol.specs.Step.{stepOf, refusal, whenRead, answerNumber, unreadAs}
+use Rattle.callcontrol.specs.Step.{stepOf, refusalAt, whenRead, answerNumber, unreadAs, placeIn}
 use Rattle.callcontrol.proofs.step.step.Statement.{statement}
 use Rattle.callcontrol.proofs.step.step.Tie as tie
 
--- bytes that are no event are refused with the reader's number
+-- bytes that are no event are refused with the reader's number and place
 unread-refuses : (r : EventRead) (c : Call) (b : List ℕ) → OneOf (1 ∷ 2 ∷ 3 ∷ []) (Declared.tagOf event-read.the-type r)
-    → refusal (answerNumber (unreadAs r)) c b ≡ whenRead (asEventRead r) c b
+    → refusalAt (answerNumber (unreadAs r)) (placeIn r) c b ≡ whenRead (asEventRead r) c b
 unread-refuses (EventRead.Is e) c b k = absurd (miss (1 ∷ 2 ∷ 3 ∷ []) 0 tt k)
 unread-refuses EventRead.BadLength c b k = refl
 unread-refuses EventRead.UnknownKind c b k = refl
-unread-refuses EventRead.BadBody c b k = refl
+unread-refuses (EventRead.BadBody place) c b k = refl
 
 pub step-spec : {M : Type 1} → statement M
 unfolding stepOf
@@ -34,10 +34,11 @@ step-spec =
     (λ c. search needs)
     (λ c κs. search needs)
     (λ c κs. search needs)
+    (λ c κs. search needs)
     (λ c.
-    let s = c .before .before .before in
-    rw (c .refuse2 .ensures, ← s .before .before .sound .ensures, not-false (s .before .before .sound .result) (s .before .if1 .left), ← s .read-event .ensures, c .before .unread .ensures)
-    (unread-refuses (s .read-event .result) _ _ (c .before .before .match .keys2)))
+    let s = c .before .before .before .before in
+    rw (c .refuse2 .ensures, ← s .before .before .sound .ensures, not-false (s .before .before .sound .result) (s .before .if1 .left), ← s .read-event .ensures, c .before .before .unread .ensures, c .before .place-in .ensures)
+    (unread-refuses (s .read-event .result) _ _ (c .before .before .before .match .keys2)))
     (λ c κs. search needs)
     (λ c. search needs)
     (λ c.

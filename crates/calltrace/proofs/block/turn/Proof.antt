@@ -43,7 +43,7 @@ decided-count c e buffer =
 
 read-count : (r : Read Event) (c : Call) (buffer : List ℕ) → Counts buffer (whenRead r c buffer)
 read-count (taken e) c buffer = decided-count c e buffer
-read-count (refused n) c buffer = zero-le
+read-count (refused n place) c buffer = zero-le
 
 -- no step counts more bytes than it is lent
 step-count : (c : Call) (bytes buffer : List ℕ) → Counts buffer (stepOf c bytes buffer)

@@ -4,8 +4,8 @@ use native.Mathlib.Numerals.{add-one}
 use native.Mathlib.Omega.{arith}
 use borrow.Author.Needs.{needs}
 use Rattle.records.specs.Bytes.{number}
-use Rattle.records.proofs.bodies.word_at.Statement.{statement}
-use Rattle.records.proofs.bodies.word_at.Tie as tie
+use Rattle.records.proofs.fields.word_at.Statement.{statement}
+use Rattle.records.proofs.fields.word_at.Tie as tie
 
 pub word-at-spec : {M : Type 1} → statement M
 unfolding number

@@ -3,8 +3,8 @@ use native.Mathlib.Numerals.{add-two}
 use native.Mathlib.Omega.{arith}
 use borrow.Author.Needs.{needs}
 use Rattle.records.specs.Bytes.{number}
-use Rattle.records.proofs.bodies.long_at.Statement.{statement}
-use Rattle.records.proofs.bodies.long_at.Tie as tie
+use Rattle.records.proofs.fields.long_at.Statement.{statement}
+use Rattle.records.proofs.fields.long_at.Tie as tie
 
 pub long-at-spec : {M : Type 1} → statement M
 unfolding number

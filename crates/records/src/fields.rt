@@ -1,0 +1,81 @@
+// One field of a record: a letter's value from bytes, and into bytes.
+ghost use mathlib.Core.Path.{_≡_};
+ghost use Prim.Native.Nat.{_+_, _<_, _≤_};
+ghost use lib.ListN.{length};
+ghost use Rattle.records.specs.Bytes.{number};
+ghost use Rattle.records.specs.Letters.{Letter};
+ghost use Rattle.records.specs.Bodies.{valueAt, asByte, asWord, asLong};
+use crate::letters::Byte;
+use crate::letters::Long;
+use crate::letters::Word;
+use crate::letters::byte_fits;
+use crate::letters::long_fits;
+use crate::letters::word_fits;
+
+// What stands at a letter, at each width: its value, or a number out of its range.
+
+pub enum ByteField {
+    Is(u8),
+    Bad,
+}
+
+pub enum WordField {
+    Is(u16),
+    Bad,
+}
+
+pub enum LongField {
+    Is(u32),
+    Bad,
+}
+
+pub fn word_at(s: &[u8], at: usize) -> u16
+    requires { ⌜ at + 2 ≤ length (now s) ⌝ }
+    ensures { λ r. ⌜ r ≡ number 2 (now (s .entry)) at ⌝ }
+{
+    let low = s[at] as u16;
+    let high = s[at + 1] as u16;
+    low + 256 * high
+}
+
+pub fn long_at(s: &[u8], at: usize) -> u32
+    requires { ⌜ at + 4 ≤ length (now s) ⌝ }
+    ensures { λ r. ⌜ r ≡ number 4 (now (s .entry)) at ⌝ }
+{
+    let low = word_at(s, at) as u32;
+    let high = word_at(s, at + 2) as u32;
+    low + 65536 * high
+}
+
+pub fn byte_in(s: &[u8], at: usize, letter: Byte) -> ByteField
+    requires { ⌜ at < length (now s) ⌝ }
+    ensures { λ r. ⌜ asByte at r ≡ valueAt (Letter.byte letter) (now (s .entry)) at ⌝ }
+{
+    let v = s[at];
+    if !byte_fits(letter, v) {
+        return ByteField::Bad;
+    }
+    ByteField::Is(v)
+}
+
+pub fn word_in(s: &[u8], at: usize, letter: Word) -> WordField
+    requires { ⌜ at + 2 ≤ length (now s) ⌝ }
+    ensures { λ r. ⌜ asWord at r ≡ valueAt (Letter.word letter) (now (s .entry)) at ⌝ }
+{
+    let v = word_at(s, at);
+    if !word_fits(letter, v) {
+        return WordField::Bad;
+    }
+    WordField::Is(v)
+}
+
+pub fn long_in(s: &[u8], at: usize, letter: Long) -> LongField
+    requires { ⌜ at + 4 ≤ length (now s) ⌝ }
+    ensures { λ r. ⌜ asLong at r ≡ valueAt (Letter.long letter) (now (s .entry)) at ⌝ }
+{
+    let v = long_at(s, at);
+    if !long_fits(letter, v) {
+        return LongField::Bad;
+    }
+    LongField::Is(v)
+}
