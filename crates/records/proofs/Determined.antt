@@ -1,18 +1,17 @@
 -- The promises leave no choice: two results that a function's promise allows are equal, and so are the buffers that it leaves.
 use Prim.Native.Nat.{ℕ}
 use mathlib.Core.Path.{_≡_, refl, sym, _∙_, ap}
-use mathlib.Core.Bool.{cond, true}
+use mathlib.Core.Bool.{cond}
 use mathlib.Core.List.{List}
 use mathlib.Core.Option.{Option, none, some}
 use lib.Dec.{eqb}
 use Rattle.records.specs.declared.bodies.Head.{Head}
-use Rattle.records.specs.declared.bodies.Parts.{Parts}
 use Rattle.records.specs.declared.bodies.Written.{Written}
 use Rattle.records.specs.declared.events.Event.{Event}
 use Rattle.records.specs.declared.events.EventRead.{EventRead}
 use Rattle.records.specs.declared.messages.Message.{Message}
 use Rattle.records.specs.declared.messages.MessageRead.{MessageRead}
-use Rattle.records.specs.Bodies.{Wrote, wrote, notWritten, asHead, asWrote, kindIn, written, flatBytes, partsOf, laid, laidNext}
+use Rattle.records.specs.Bodies.{Wrote, wrote, notWritten, asHead, asWrote, kindIn, laid, laidNext}
 use Rattle.records.specs.Tables.{Read, taken, refused, read, write}
 use Rattle.records.specs.Events.{events, asEventRead}
 use Rattle.records.specs.Messages.{messages, asMessageRead, messageBytes, messageSize}
@@ -96,6 +95,3 @@ message-size m = equation (messageSize m)
 
 pub kind-in : (s : List ℕ) (r₁ r₂ : Head) → asHead r₁ ≡ kindIn s → asHead r₂ ≡ kindIn s → r₁ ≡ r₂
 kind-in s = turned asHead head-back head-same (kindIn s)
-
-pub write-parts : (p : Parts) (buffer : List ℕ) (w₁ w₂ : Written × List ℕ) → wroteInto w₁ ≡ written true (flatBytes (partsOf p)) buffer → wroteInto w₂ ≡ written true (flatBytes (partsOf p)) buffer → w₁ ≡ w₂
-write-parts p buffer = into-determined (written true (flatBytes (partsOf p)) buffer)

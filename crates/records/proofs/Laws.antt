@@ -1,5 +1,6 @@
 -- Laws that several proofs use: what a run of stores leaves, and how many bytes a record takes.
 use Prim.Native.Nat.{ℕ, zero, suc, _+_}
+use mathlib.Core.Bool.{Bool, true, false}
 use mathlib.Core.List.{List, [], _∷_, _++_}
 use mathlib.Core.Path.{_≡_, refl, _∙_, ap}
 use native.Mathlib.Nat.{add-zero}
@@ -9,6 +10,11 @@ use lib.Seq.{sets}
 use Rattle.records.specs.Bytes.{bytes}
 use Rattle.records.specs.Letters.{Letter}
 use Rattle.records.specs.Bodies.{Values, Flat, Stored, size, bodyBytes, flatBytes, flatSize}
+
+-- a test, either way
+pub by-test : {A : Type 0} (b : Bool) → (b ≡ true → A) → (b ≡ false → A) → A
+by-test true met missed = met refl
+by-test false met missed = missed refl
 
 pub sets-append : (xs : List ℕ) (l ys : List ℕ) (i : ℕ) → sets l i (xs ++ ys) ≡ sets (sets l i xs) (i + length xs) ys
 sets-append [] l ys i = rw add-zero

@@ -6,3 +6,4 @@ pub mod Reading
 pub mod RoundTrip
 pub mod Rows
 pub mod Tables
+pub mod Writing

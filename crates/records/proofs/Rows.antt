@@ -4,7 +4,7 @@ use mathlib.Core.Bool.{Bool, true, false, not}
 use mathlib.Core.List.{List, [], _∷_}
 use mathlib.Core.Option.{none, some}
 use Prim.Native.Nat.{ℕ, _+_}
-use borrow.Author.Tests.{eq-eqb, ne-eqb, not-true, not-false}
+use borrow.Author.Tests.{eq-eqb, ne-eqb}
 use lib.ListN.{length}
 use Rattle.records.specs.Bodies.{Values, Flat, is, badAt, Wrote, notWritten, size, valuesAt, bodyOf, kindIn, flatFits, flatBytes, written}
 use Rattle.records.proofs.Reading.{Good, Bad}
@@ -57,19 +57,3 @@ module _ (t : Table) where
   pub headed : (s : List ℕ) {n : ℕ} {r : Read (t .Value)} → some n ≡ kindIn s → r ≡ readAs t n s → r ≡ read t s
   unfolding read
   headed s e h = rw (← e) h
-
-  module _ {f : Flat} {v : t .Value} {fit : Bool} (buffer : List ℕ) (parts : f ≡ flat t v) (fits : fit ≡ flatFits f) where
-    -- values out of their letters' ranges
-    pub misfit : not fit ≡ true → (notWritten 4, buffer) ≡ write t v buffer
-    unfolding write fine written
-    misfit h = let e : flatFits (flat t v) ≡ false = cc (not-true fit h) in rw e
-
-    -- values in range that do not agree
-    pub disagree : not fit ≡ false → t .agrees v ≡ false → (notWritten 4, buffer) ≡ write t v buffer
-    unfolding write fine written
-    disagree h a = let e : flatFits (flat t v) ≡ true = cc (not-false fit h) in rw (e, a)
-
-    -- values that are right
-    pub written-as : not fit ≡ false → t .agrees v ≡ true → {w : Wrote × List ℕ} → w ≡ written true (flatBytes f) buffer → w ≡ write t v buffer
-    unfolding write fine
-    written-as h a e = let g : flatFits (flat t v) ≡ true = cc (not-false fit h) in rw (g, a, ← parts) e

@@ -15,57 +15,35 @@ use Rattle.records.specs.Messages.{messages, MessageKind, messageRow, me
 pub told-apart : distinct (numbers events ++ numbers messages) ≡ true
 told-apart = refl
 
-pub event-found : (k : EventKind) → find events (eventRow k .number) eventKinds ≡ some k
-event-found setupRequest = refl
-event-found setupResponse = refl
-event-found releaseRequest = refl
-event-found txRequest = refl
-event-found modifyRequest = refl
-event-found dCallProceeding = refl
-event-found dAlert = refl
-event-found dConnect = refl
-event-found dConnectAcknowledge = refl
-event-found dSetup = refl
-event-found dInfo = refl
-event-found dTxGranted = refl
-event-found dTxCeased = refl
-event-found dTxInterrupt = refl
-event-found dTxWait = refl
-event-found dTxContinue = refl
-event-found dCallRestore = refl
-event-found dDisconnect = refl
-event-found dRelease = refl
-event-found reportSent = refl
-event-found reportFailed = refl
-event-found break = refl
-event-found resume = refl
-event-found expiry = refl
+-- a kind's number leads to it, and its values are taken apart as they were put together
+event-line : (k : EventKind) → (find events (eventRow k .number) eventKinds ≡ some k) × ((vs : Values (eventRow k .letters)) → _≡_ {A = (k : EventKind) × Values (eventRow k .letters)} (eventApart (eventOf k vs)) (k, vs))
+event-line setupRequest = (refl, λ vs. refl)
+event-line setupResponse = (refl, λ vs. refl)
+event-line releaseRequest = (refl, λ vs. refl)
+event-line txRequest = (refl, λ vs. refl)
+event-line modifyRequest = (refl, λ vs. refl)
+event-line dCallProceeding = (refl, λ vs. refl)
+event-line dAlert = (refl, λ vs. refl)
+event-line dConnect = (refl, λ vs. refl)
+event-line dConnectAcknowledge = (refl, λ vs. refl)
+event-line dSetup = (refl, λ vs. refl)
+event-line dInfo = (refl, λ vs. refl)
+event-line dTxGranted = (refl, λ vs. refl)
+event-line dTxCeased = (refl, λ vs. refl)
+event-line dTxInterrupt = (refl, λ vs. refl)
+event-line dTxWait = (refl, λ vs. refl)
+event-line dTxContinue = (refl, λ vs. refl)
+event-line dCallRestore = (refl, λ vs. refl)
+event-line dDisconnect = (refl, λ vs. refl)
+event-line dRelease = (refl, λ vs. refl)
+event-line reportSent = (refl, λ vs. refl)
+event-line reportFailed = (refl, λ vs. refl)
+event-line break = (refl, λ vs. refl)
+event-line resume = (refl, λ vs. refl)
+event-line expiry = (refl, λ vs. refl)
 
-pub event-together : (k : EventKind) (vs : Values (eventRow k .letters)) → _≡_ {A = (k : EventKind) × Values (eventRow k .letters)} (eventApart (eventOf k vs)) (k, vs)
-event-together setupRequest vs = refl
-event-together setupResponse vs = refl
-event-together releaseRequest vs = refl
-event-together txRequest vs = refl
-event-together modifyRequest vs = refl
-event-together dCallProceeding vs = refl
-event-together dAlert vs = refl
-event-together dConnect vs = refl
-event-together dConnectAcknowledge vs = refl
-event-together dSetup vs = refl
-event-together dInfo vs = refl
-event-together dTxGranted vs = refl
-event-together dTxCeased vs = refl
-event-together dTxInterrupt vs = refl
-event-together dTxWait vs = refl
-event-together dTxContinue vs = refl
-event-together dCallRestore vs = refl
-event-together dDisconnect vs = refl
-event-together dRelease vs = refl
-event-together reportSent vs = refl
-event-together reportFailed vs = refl
-event-together break vs = refl
-event-together resume vs = refl
-event-together expiry vs = refl
+pub event-found : (k : EventKind) → find events (eventRow k .number) eventKinds ≡ some k
+event-found k = event-line k .0
 
 pub event-again : (e : Event) → eventOf (eventApart e .0) (eventApart e .1) ≡ e
 event-again (Event.SetupRequest address mode ask) = refl
@@ -94,53 +72,34 @@ event-again Event.Resume = refl
 event-again (Event.Expiry timer) = refl
 
 pub event-lawful : Lawful events
-event-lawful = record { together = event-together; again = event-again; found = event-found; narrow = refl }
+event-lawful = record { together = λ k. event-line k .1; again = event-again; found = event-found; narrow = refl }
+
+-- a kind's number leads to it, and its values are taken apart as they were put together
+message-line : (k : MessageKind) → (find messages (messageRow k .number) messageKinds ≡ some k) × ((vs : Values (messageRow k .letters)) → _≡_ {A = (k : MessageKind) × Values (messageRow k .letters)} (messageApart (messageOf k vs)) (k, vs))
+message-line uSetup = (refl, λ vs. refl)
+message-line uConnect = (refl, λ vs. refl)
+message-line uDisconnect = (refl, λ vs. refl)
+message-line uRelease = (refl, λ vs. refl)
+message-line uInfo = (refl, λ vs. refl)
+message-line uTxDemand = (refl, λ vs. refl)
+message-line uTxCeased = (refl, λ vs. refl)
+message-line uCallRestore = (refl, λ vs. refl)
+message-line stop = (refl, λ vs. refl)
+message-line start = (refl, λ vs. refl)
+message-line configure = (refl, λ vs. refl)
+message-line cancel = (refl, λ vs. refl)
+message-line setupIndication = (refl, λ vs. refl)
+message-line setupConfirm = (refl, λ vs. refl)
+message-line proceed = (refl, λ vs. refl)
+message-line alert = (refl, λ vs. refl)
+message-line complete = (refl, λ vs. refl)
+message-line releaseIndication = (refl, λ vs. refl)
+message-line releaseConfirm = (refl, λ vs. refl)
+message-line txIndication = (refl, λ vs. refl)
+message-line modifyIndication = (refl, λ vs. refl)
 
 pub message-found : (k : MessageKind) → find messages (messageRow k .number) messageKinds ≡ some k
-message-found uSetup = refl
-message-found uConnect = refl
-message-found uDisconnect = refl
-message-found uRelease = refl
-message-found uInfo = refl
-message-found uTxDemand = refl
-message-found uTxCeased = refl
-message-found uCallRestore = refl
-message-found stop = refl
-message-found start = refl
-message-found configure = refl
-message-found cancel = refl
-message-found setupIndication = refl
-message-found setupConfirm = refl
-message-found proceed = refl
-message-found alert = refl
-message-found complete = refl
-message-found releaseIndication = refl
-message-found releaseConfirm = refl
-message-found txIndication = refl
-message-found modifyIndication = refl
-
-pub message-together : (k : MessageKind) (vs : Values (messageRow k .letters)) → _≡_ {A = (k : MessageKind) × Values (messageRow k .letters)} (messageApart (messageOf k vs)) (k, vs)
-message-together uSetup vs = refl
-message-together uConnect vs = refl
-message-together uDisconnect vs = refl
-message-together uRelease vs = refl
-message-together uInfo vs = refl
-message-together uTxDemand vs = refl
-message-together uTxCeased vs = refl
-message-together uCallRestore vs = refl
-message-together stop vs = refl
-message-together start vs = refl
-message-together configure vs = refl
-message-together cancel vs = refl
-message-together setupIndication vs = refl
-message-together setupConfirm vs = refl
-message-together proceed vs = refl
-message-together alert vs = refl
-message-together complete vs = refl
-message-together releaseIndication vs = refl
-message-together releaseConfirm vs = refl
-message-together txIndication vs = refl
-message-together modifyIndication vs = refl
+message-found k = message-line k .0
 
 pub message-again : (m : Message) → messageOf (messageApart m .0) (messageApart m .1) ≡ m
 message-again (Message.USetup address mode ask) = refl
@@ -166,4 +125,4 @@ message-again (Message.TxIndication told) = refl
 message-again (Message.ModifyIndication mode) = refl
 
 pub message-lawful : Lawful messages
-message-lawful = record { together = message-together; again = message-again; found = message-found; narrow = refl }
+message-lawful = record { together = λ k. message-line k .1; again = message-again; found = message-found; narrow = refl }

@@ -8,10 +8,7 @@ use lib.Dec.{leb, eqb}
 use lib.ListN.{length}
 use lib.Seq.{sets}
 use Rattle.records.specs.Bytes.{number, bytes}
-use Rattle.records.specs.Letters.{Letter, byte, word, long, width, fits}
-use Rattle.records.specs.declared.bodies.Shape.{Shape}
-use Rattle.records.specs.declared.bodies.Fields.{Fields}
-use Rattle.records.specs.declared.bodies.Parts.{Parts}
+use Rattle.records.specs.Letters.{Letter, width, fits}
 use Rattle.records.specs.declared.bodies.Head.{Head}
 use Rattle.records.specs.declared.bodies.Written.{Written}
 use Rattle.records.specs.declared.fields.ByteField.{ByteField}
@@ -109,29 +106,6 @@ pub record Stored (old : List ℕ) (at : ℕ) (xs : List ℕ) (next : ℕ) (new 
   pub now : new ≡ sets old at xs
 
 -- the code's types, in these terms
-
-abbrev pub lettersOf : Shape → List Letter
-lettersOf Shape.Nothing = []
-lettersOf (Shape.Byte b) = byte b ∷ []
-lettersOf (Shape.Word w) = word w ∷ []
-lettersOf (Shape.WordByte w b) = word w ∷ byte b ∷ []
-lettersOf (Shape.WordByteByte w b c) = word w ∷ byte b ∷ byte c ∷ []
-lettersOf (Shape.WordByteByteByte w b c d) = word w ∷ byte b ∷ byte c ∷ byte d ∷ []
-lettersOf (Shape.WordLongByte w a b) = word w ∷ long a ∷ byte b ∷ []
-lettersOf (Shape.LongByteByte a b c) = long a ∷ byte b ∷ byte c ∷ []
-
-abbrev pub valuesOf : (shape : Shape) → Fields → Values (lettersOf shape)
-valuesOf Shape.Nothing f = tt
-valuesOf (Shape.Byte b) f = (f .first, tt)
-valuesOf (Shape.Word w) f = (f .word, tt)
-valuesOf (Shape.WordByte w b) f = (f .word, (f .first, tt))
-valuesOf (Shape.WordByteByte w b c) f = (f .word, (f .first, (f .second, tt)))
-valuesOf (Shape.WordByteByteByte w b c d) f = (f .word, (f .first, (f .second, (f .third, tt))))
-valuesOf (Shape.WordLongByte w a b) f = (f .word, (f .long, (f .first, tt)))
-valuesOf (Shape.LongByteByte a b c) f = (f .long, (f .first, (f .second, tt)))
-
-abbrev pub partsOf : Parts → Flat
-partsOf p = record { kind = p .kind; letters = lettersOf (p .shape); values = valuesOf (p .shape) (p .fields) }
 
 abbrev pub asHead : Head → Option ℕ
 asHead (Head.Kind k) = some k

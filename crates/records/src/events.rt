@@ -2,26 +2,28 @@
 ghost use mathlib.Core.Path.{_≡_};
 ghost use mathlib.Core.List.{List};
 ghost use Prim.Native.Nat.{ℕ};
-ghost use Rattle.records.specs.Bodies.{Wrote, asWrote, partsOf};
-ghost use Rattle.records.specs.Tables.{read, readAs, flat, write};
+ghost use Rattle.records.specs.Bodies.{Wrote, asWrote, flatBytes, laid, laidNext};
+ghost use Rattle.records.specs.Tables.{read, readAs, flat, fine, write};
 ghost use Rattle.records.specs.Events.{events, asEventRead};
-use crate::bodies::Fields;
 use crate::bodies::Head;
-use crate::bodies::Parts;
-use crate::bodies::Shape;
 use crate::bodies::Written;
 use crate::bodies::kind_in;
-use crate::bodies::parts_fit;
-use crate::bodies::write_parts;
 use crate::fields::ByteField;
 use crate::fields::LongField;
 use crate::fields::WordField;
 use crate::fields::byte_in;
 use crate::fields::long_in;
+use crate::fields::put_byte;
+use crate::fields::put_head;
+use crate::fields::put_long;
+use crate::fields::put_word;
 use crate::fields::word_in;
 use crate::letters::Byte;
 use crate::letters::Long;
 use crate::letters::Word;
+use crate::letters::byte_fits;
+use crate::letters::long_fits;
+use crate::letters::word_fits;
 
 pub enum Event {
     // 0101 SETUP request. The user asks for a call to an address.
@@ -422,289 +424,301 @@ pub fn read_event(s: &[u8]) -> EventRead
     read_kind(kind, s)
 }
 
-fn event_parts(e: Event) -> Parts
-    ensures { λ r. ⌜ partsOf r ≡ flat events e ⌝ }
+// Stores an event at the front of a buffer where it fits, whatever its values, and answers how many bytes it took: 0 where it does not fit.
+fn put_event(e: Event, out: &mut [u8]) -> usize
+    ensures { λ r. ⌜ _≡_ {A = ℕ × List ℕ} (r, now (out .exit)) (laidNext (flatBytes (flat events e)) (now (out .entry)) 0, laid (flatBytes (flat events e)) (now (out .entry)) 0) ⌝ }
 {
     match e {
-        Event::SetupRequest { address, mode, ask } => Parts {
-            kind: 0x0101,
-            shape: Shape::LongByteByte(Long::A1, Byte::D, Byte::Q),
-            fields: Fields {
-                word: 0,
-                long: address,
-                first: mode,
-                second: ask,
-                third: 0,
-            },
-        },
-        Event::SetupResponse => Parts {
-            kind: 0x0102,
-            shape: Shape::Nothing,
-            fields: Fields {
-                word: 0,
-                long: 0,
-                first: 0,
-                second: 0,
-                third: 0,
-            },
-        },
-        Event::ReleaseRequest => Parts {
-            kind: 0x0103,
-            shape: Shape::Nothing,
-            fields: Fields {
-                word: 0,
-                long: 0,
-                first: 0,
-                second: 0,
-                third: 0,
-            },
-        },
-        Event::TxRequest { go } => Parts {
-            kind: 0x0104,
-            shape: Shape::Byte(Byte::K),
-            fields: Fields {
-                word: 0,
-                long: 0,
-                first: go,
-                second: 0,
-                third: 0,
-            },
-        },
-        Event::ModifyRequest { mode } => Parts {
-            kind: 0x0105,
-            shape: Shape::Byte(Byte::D),
-            fields: Fields {
-                word: 0,
-                long: 0,
-                first: mode,
-                second: 0,
-                third: 0,
-            },
-        },
-        Event::DCallProceeding { id } => Parts {
-            kind: 0x0201,
-            shape: Shape::Word(Word::I),
-            fields: Fields {
-                word: id,
-                long: 0,
-                first: 0,
-                second: 0,
-                third: 0,
-            },
-        },
-        Event::DAlert { id } => Parts {
-            kind: 0x0202,
-            shape: Shape::Word(Word::I),
-            fields: Fields {
-                word: id,
-                long: 0,
-                first: 0,
-                second: 0,
-                third: 0,
-            },
-        },
+        Event::SetupRequest { address, mode, ask } => { // SETUP request a d q
+            if out.len() < 10 {
+                return 0;
+            }
+            put_head(out, 10, 0x0101);
+            put_long(out, 4, address);
+            put_byte(out, 8, mode);
+            put_byte(out, 9, ask);
+            10
+        }
+        Event::SetupResponse => { // SETUP response
+            if out.len() < 4 {
+                return 0;
+            }
+            put_head(out, 4, 0x0102);
+            4
+        }
+        Event::ReleaseRequest => { // RELEASE request
+            if out.len() < 4 {
+                return 0;
+            }
+            put_head(out, 4, 0x0103);
+            4
+        }
+        Event::TxRequest { go } => { // TX request k
+            if out.len() < 5 {
+                return 0;
+            }
+            put_head(out, 5, 0x0104);
+            put_byte(out, 4, go);
+            5
+        }
+        Event::ModifyRequest { mode } => { // MODIFY request d
+            if out.len() < 5 {
+                return 0;
+            }
+            put_head(out, 5, 0x0105);
+            put_byte(out, 4, mode);
+            5
+        }
+        Event::DCallProceeding { id } => { // D-CALL PROCEEDING i
+            if out.len() < 6 {
+                return 0;
+            }
+            put_head(out, 6, 0x0201);
+            put_word(out, 4, id);
+            6
+        }
+        Event::DAlert { id } => { // D-ALERT i
+            if out.len() < 6 {
+                return 0;
+            }
+            put_head(out, 6, 0x0202);
+            put_word(out, 4, id);
+            6
+        }
         Event::DConnect {
             id,
             grant,
             mode,
             code,
-        } => Parts {
-            kind: 0x0203,
-            shape: Shape::WordByteByteByte(Word::I, Byte::G, Byte::D, Byte::O),
-            fields: Fields {
-                word: id,
-                long: 0,
-                first: grant,
-                second: mode,
-                third: code,
-            },
-        },
-        Event::DConnectAcknowledge { id, grant, code } => Parts {
-            kind: 0x0204,
-            shape: Shape::WordByteByte(Word::I, Byte::G, Byte::O),
-            fields: Fields {
-                word: id,
-                long: 0,
-                first: grant,
-                second: code,
-                third: 0,
-            },
-        },
-        Event::DSetup { id, address, mode } => Parts {
-            kind: 0x0205,
-            shape: Shape::WordLongByte(Word::I, Long::A, Byte::D),
-            fields: Fields {
-                word: id,
-                long: address,
-                first: mode,
-                second: 0,
-                third: 0,
-            },
-        },
+        } => { // D-CONNECT i g d o
+            if out.len() < 9 {
+                return 0;
+            }
+            put_head(out, 9, 0x0203);
+            put_word(out, 4, id);
+            put_byte(out, 6, grant);
+            put_byte(out, 7, mode);
+            put_byte(out, 8, code);
+            9
+        }
+        Event::DConnectAcknowledge { id, grant, code } => { // D-CONNECT ACKNOWLEDGE i g o
+            if out.len() < 8 {
+                return 0;
+            }
+            put_head(out, 8, 0x0204);
+            put_word(out, 4, id);
+            put_byte(out, 6, grant);
+            put_byte(out, 7, code);
+            8
+        }
+        Event::DSetup { id, address, mode } => { // D-SETUP i a d
+            if out.len() < 11 {
+                return 0;
+            }
+            put_head(out, 11, 0x0205);
+            put_word(out, 4, id);
+            put_long(out, 6, address);
+            put_byte(out, 10, mode);
+            11
+        }
         Event::DInfo {
             id,
             reset,
             code,
             mode,
-        } => Parts {
-            kind: 0x0206,
-            shape: Shape::WordByteByteByte(Word::I, Byte::R, Byte::O16, Byte::D),
-            fields: Fields {
-                word: id,
-                long: 0,
-                first: reset,
-                second: code,
-                third: mode,
-            },
-        },
-        Event::DTxGranted { id, grant } => Parts {
-            kind: 0x0207,
-            shape: Shape::WordByte(Word::I, Byte::G),
-            fields: Fields {
-                word: id,
-                long: 0,
-                first: grant,
-                second: 0,
-                third: 0,
-            },
-        },
-        Event::DTxCeased { id } => Parts {
-            kind: 0x0208,
-            shape: Shape::Word(Word::I),
-            fields: Fields {
-                word: id,
-                long: 0,
-                first: 0,
-                second: 0,
-                third: 0,
-            },
-        },
-        Event::DTxInterrupt { id, grant } => Parts {
-            kind: 0x0209,
-            shape: Shape::WordByte(Word::I, Byte::G),
-            fields: Fields {
-                word: id,
-                long: 0,
-                first: grant,
-                second: 0,
-                third: 0,
-            },
-        },
-        Event::DTxWait { id } => Parts {
-            kind: 0x020A,
-            shape: Shape::Word(Word::I),
-            fields: Fields {
-                word: id,
-                long: 0,
-                first: 0,
-                second: 0,
-                third: 0,
-            },
-        },
-        Event::DTxContinue { id, go } => Parts {
-            kind: 0x020B,
-            shape: Shape::WordByte(Word::I, Byte::K),
-            fields: Fields {
-                word: id,
-                long: 0,
-                first: go,
-                second: 0,
-                third: 0,
-            },
-        },
+        } => { // D-INFO i r o d
+            if out.len() < 9 {
+                return 0;
+            }
+            put_head(out, 9, 0x0206);
+            put_word(out, 4, id);
+            put_byte(out, 6, reset);
+            put_byte(out, 7, code);
+            put_byte(out, 8, mode);
+            9
+        }
+        Event::DTxGranted { id, grant } => { // D-TX GRANTED i g
+            if out.len() < 7 {
+                return 0;
+            }
+            put_head(out, 7, 0x0207);
+            put_word(out, 4, id);
+            put_byte(out, 6, grant);
+            7
+        }
+        Event::DTxCeased { id } => { // D-TX CEASED i
+            if out.len() < 6 {
+                return 0;
+            }
+            put_head(out, 6, 0x0208);
+            put_word(out, 4, id);
+            6
+        }
+        Event::DTxInterrupt { id, grant } => { // D-TX INTERRUPT i g
+            if out.len() < 7 {
+                return 0;
+            }
+            put_head(out, 7, 0x0209);
+            put_word(out, 4, id);
+            put_byte(out, 6, grant);
+            7
+        }
+        Event::DTxWait { id } => { // D-TX WAIT i
+            if out.len() < 6 {
+                return 0;
+            }
+            put_head(out, 6, 0x020A);
+            put_word(out, 4, id);
+            6
+        }
+        Event::DTxContinue { id, go } => { // D-TX CONTINUE i k
+            if out.len() < 7 {
+                return 0;
+            }
+            put_head(out, 7, 0x020B);
+            put_word(out, 4, id);
+            put_byte(out, 6, go);
+            7
+        }
         Event::DCallRestore {
             id,
             grant,
             reset,
             code,
-        } => Parts {
-            kind: 0x020C,
-            shape: Shape::WordByteByteByte(Word::I, Byte::G, Byte::R, Byte::O16),
-            fields: Fields {
-                word: id,
-                long: 0,
-                first: grant,
-                second: reset,
-                third: code,
-            },
-        },
-        Event::DDisconnect { id } => Parts {
-            kind: 0x020D,
-            shape: Shape::Word(Word::I0),
-            fields: Fields {
-                word: id,
-                long: 0,
-                first: 0,
-                second: 0,
-                third: 0,
-            },
-        },
-        Event::DRelease { id } => Parts {
-            kind: 0x020E,
-            shape: Shape::Word(Word::I0),
-            fields: Fields {
-                word: id,
-                long: 0,
-                first: 0,
-                second: 0,
-                third: 0,
-            },
-        },
-        Event::ReportSent => Parts {
-            kind: 0x0301,
-            shape: Shape::Nothing,
-            fields: Fields {
-                word: 0,
-                long: 0,
-                first: 0,
-                second: 0,
-                third: 0,
-            },
-        },
-        Event::ReportFailed => Parts {
-            kind: 0x0302,
-            shape: Shape::Nothing,
-            fields: Fields {
-                word: 0,
-                long: 0,
-                first: 0,
-                second: 0,
-                third: 0,
-            },
-        },
-        Event::Break => Parts {
-            kind: 0x0303,
-            shape: Shape::Nothing,
-            fields: Fields {
-                word: 0,
-                long: 0,
-                first: 0,
-                second: 0,
-                third: 0,
-            },
-        },
-        Event::Resume => Parts {
-            kind: 0x0304,
-            shape: Shape::Nothing,
-            fields: Fields {
-                word: 0,
-                long: 0,
-                first: 0,
-                second: 0,
-                third: 0,
-            },
-        },
-        Event::Expiry { timer } => Parts {
-            kind: 0x0401,
-            shape: Shape::Word(Word::N),
-            fields: Fields {
-                word: timer,
-                long: 0,
-                first: 0,
-                second: 0,
-                third: 0,
-            },
-        },
+        } => { // D-CALL RESTORE i g r o
+            if out.len() < 9 {
+                return 0;
+            }
+            put_head(out, 9, 0x020C);
+            put_word(out, 4, id);
+            put_byte(out, 6, grant);
+            put_byte(out, 7, reset);
+            put_byte(out, 8, code);
+            9
+        }
+        Event::DDisconnect { id } => { // D-DISCONNECT i
+            if out.len() < 6 {
+                return 0;
+            }
+            put_head(out, 6, 0x020D);
+            put_word(out, 4, id);
+            6
+        }
+        Event::DRelease { id } => { // D-RELEASE i
+            if out.len() < 6 {
+                return 0;
+            }
+            put_head(out, 6, 0x020E);
+            put_word(out, 4, id);
+            6
+        }
+        Event::ReportSent => { // REPORT sent
+            if out.len() < 4 {
+                return 0;
+            }
+            put_head(out, 4, 0x0301);
+            4
+        }
+        Event::ReportFailed => { // REPORT failed
+            if out.len() < 4 {
+                return 0;
+            }
+            put_head(out, 4, 0x0302);
+            4
+        }
+        Event::Break => { // BREAK
+            if out.len() < 4 {
+                return 0;
+            }
+            put_head(out, 4, 0x0303);
+            4
+        }
+        Event::Resume => { // RESUME
+            if out.len() < 4 {
+                return 0;
+            }
+            put_head(out, 4, 0x0304);
+            4
+        }
+        Event::Expiry { timer } => { // expiry n
+            if out.len() < 6 {
+                return 0;
+            }
+            put_head(out, 6, 0x0401);
+            put_word(out, 4, timer);
+            6
+        }
+    }
+}
+
+// Whether every field is in its letter's range.
+fn event_fits(e: Event) -> bool
+    ensures { λ r. ⌜ r ≡ fine events e ⌝ }
+{
+    match e {
+        Event::SetupRequest { address, mode, ask } => { // SETUP request a d q
+            long_fits(Long::A1, address) & (byte_fits(Byte::D, mode) & byte_fits(Byte::Q, ask))
+        }
+        Event::SetupResponse => true, // SETUP response
+        Event::ReleaseRequest => true, // RELEASE request
+        Event::TxRequest { go } => byte_fits(Byte::K, go), // TX request k
+        Event::ModifyRequest { mode } => byte_fits(Byte::D, mode), // MODIFY request d
+        Event::DCallProceeding { id } => word_fits(Word::I, id), // D-CALL PROCEEDING i
+        Event::DAlert { id } => word_fits(Word::I, id), // D-ALERT i
+        Event::DConnect {
+            id,
+            grant,
+            mode,
+            code,
+        } => { // D-CONNECT i g d o
+            word_fits(Word::I, id)
+                & (byte_fits(Byte::G, grant)
+                    & (byte_fits(Byte::D, mode) & byte_fits(Byte::O, code)))
+        }
+        Event::DConnectAcknowledge { id, grant, code } => { // D-CONNECT ACKNOWLEDGE i g o
+            word_fits(Word::I, id) & (byte_fits(Byte::G, grant) & byte_fits(Byte::O, code))
+        }
+        Event::DSetup { id, address, mode } => { // D-SETUP i a d
+            word_fits(Word::I, id) & (long_fits(Long::A, address) & byte_fits(Byte::D, mode))
+        }
+        Event::DInfo {
+            id,
+            reset,
+            code,
+            mode,
+        } => { // D-INFO i r o d
+            word_fits(Word::I, id)
+                & (byte_fits(Byte::R, reset)
+                    & (byte_fits(Byte::O16, code) & byte_fits(Byte::D, mode)))
+        }
+        Event::DTxGranted { id, grant } => { // D-TX GRANTED i g
+            word_fits(Word::I, id) & byte_fits(Byte::G, grant)
+        }
+        Event::DTxCeased { id } => word_fits(Word::I, id), // D-TX CEASED i
+        Event::DTxInterrupt { id, grant } => { // D-TX INTERRUPT i g
+            word_fits(Word::I, id) & byte_fits(Byte::G, grant)
+        }
+        Event::DTxWait { id } => word_fits(Word::I, id), // D-TX WAIT i
+        Event::DTxContinue { id, go } => { // D-TX CONTINUE i k
+            word_fits(Word::I, id) & byte_fits(Byte::K, go)
+        }
+        Event::DCallRestore {
+            id,
+            grant,
+            reset,
+            code,
+        } => { // D-CALL RESTORE i g r o
+            word_fits(Word::I, id)
+                & (byte_fits(Byte::G, grant)
+                    & (byte_fits(Byte::R, reset) & byte_fits(Byte::O16, code)))
+        }
+        Event::DDisconnect { id } => word_fits(Word::I0, id), // D-DISCONNECT i
+        Event::DRelease { id } => word_fits(Word::I0, id), // D-RELEASE i
+        Event::ReportSent => true, // REPORT sent
+        Event::ReportFailed => true, // REPORT failed
+        Event::Break => true, // BREAK
+        Event::Resume => true, // RESUME
+        Event::Expiry { timer } => word_fits(Word::N, timer), // expiry n
     }
 }
 
@@ -712,9 +726,12 @@ fn event_parts(e: Event) -> Parts
 pub fn write_event(e: Event, buffer: &mut [u8]) -> Written
     ensures { λ r. ⌜ _≡_ {A = Wrote × List ℕ} (asWrote r, now (buffer .exit)) (write events e (now (buffer .entry))) ⌝ }
 {
-    let parts = event_parts(e);
-    if !parts_fit(parts) {
+    if !event_fits(e) {
         return Written::BadField;
     }
-    write_parts(parts, buffer)
+    let size = put_event(e, buffer);
+    if size == 0 {
+        return Written::NoRoom;
+    }
+    Written::Count(size)
 }

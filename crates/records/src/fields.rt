@@ -1,10 +1,11 @@
 // One field of a record: a letter's value from bytes, and into bytes.
 ghost use mathlib.Core.Path.{_≡_};
 ghost use Prim.Native.Nat.{_+_, _<_, _≤_};
+ghost use mathlib.Core.List.{_++_};
 ghost use lib.ListN.{length};
-ghost use Rattle.records.specs.Bytes.{number};
+ghost use Rattle.records.specs.Bytes.{number, bytes};
 ghost use Rattle.records.specs.Letters.{Letter};
-ghost use Rattle.records.specs.Bodies.{valueAt, asByte, asWord, asLong};
+ghost use Rattle.records.specs.Bodies.{Stored, valueAt, asByte, asWord, asLong};
 use crate::letters::Byte;
 use crate::letters::Long;
 use crate::letters::Word;
@@ -78,4 +79,42 @@ pub fn long_in(s: &[u8], at: usize, letter: Long) -> LongField
         return LongField::Bad;
     }
     LongField::Is(v)
+}
+
+// Each stores at a position and answers the next one.
+
+pub fn put_byte(out: &mut [u8], at: usize, v: u8) -> usize
+    requires { ⌜ at < length (now out) ⌝ }
+    ensures { λ r. ⌜ Stored (now (out .entry)) at (bytes 1 v) r (now (out .exit)) ⌝ }
+{
+    out[at] = v;
+    at + 1
+}
+
+pub fn put_word(out: &mut [u8], at: usize, v: u16) -> usize
+    requires { ⌜ at + 2 ≤ length (now out) ⌝ }
+    ensures { λ r. ⌜ Stored (now (out .entry)) at (bytes 2 v) r (now (out .exit)) ⌝ }
+{
+    let low = (v % 256) as u8;
+    let high = (v / 256 % 256) as u8;
+    out[at] = low;
+    out[at + 1] = high;
+    at + 2
+}
+
+pub fn put_long(out: &mut [u8], at: usize, v: u32) -> usize
+    requires { ⌜ at + 4 ≤ length (now out) ⌝ }
+    ensures { λ r. ⌜ Stored (now (out .entry)) at (bytes 4 v) r (now (out .exit)) ⌝ }
+{
+    let next = put_word(out, at, (v % 65536) as u16);
+    put_word(out, next, (v / 65536 % 65536) as u16)
+}
+
+// The head of a record: its length and its kind.
+pub fn put_head(out: &mut [u8], size: u16, kind: u16) -> usize
+    requires { ⌜ 4 ≤ length (now out) ⌝ }
+    ensures { λ r. ⌜ Stored (now (out .entry)) 0 (bytes 2 size ++ bytes 2 kind) r (now (out .exit)) ⌝ }
+{
+    let next = put_word(out, 0, size);
+    put_word(out, next, kind)
 }

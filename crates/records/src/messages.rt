@@ -2,28 +2,28 @@
 ghost use mathlib.Core.Path.{_≡_};
 ghost use mathlib.Core.List.{List};
 ghost use Prim.Native.Nat.{ℕ};
-ghost use Rattle.records.specs.Bodies.{Wrote, asWrote, partsOf, laid, laidNext};
-ghost use Rattle.records.specs.Tables.{read, readAs, flat, write};
-ghost use Rattle.records.specs.Messages.{messages, asMessageRead, startAgrees, messageAgrees, messageBytes, messageSize};
-use crate::bodies::Fields;
+ghost use Rattle.records.specs.Bodies.{Wrote, asWrote, laid, laidNext};
+ghost use Rattle.records.specs.Tables.{read, readAs, fine, write};
+ghost use Rattle.records.specs.Messages.{messages, asMessageRead, startAgrees, messageBytes, messageSize};
 use crate::bodies::Head;
-use crate::bodies::Parts;
-use crate::bodies::Shape;
 use crate::bodies::Written;
 use crate::bodies::kind_in;
-use crate::bodies::lay_parts;
-use crate::bodies::parts_fit;
-use crate::bodies::parts_size;
-use crate::bodies::write_parts;
 use crate::fields::ByteField;
 use crate::fields::LongField;
 use crate::fields::WordField;
 use crate::fields::byte_in;
 use crate::fields::long_in;
+use crate::fields::put_byte;
+use crate::fields::put_head;
+use crate::fields::put_long;
+use crate::fields::put_word;
 use crate::fields::word_in;
 use crate::letters::Byte;
 use crate::letters::Long;
 use crate::letters::Word;
+use crate::letters::byte_fits;
+use crate::letters::long_fits;
+use crate::letters::word_fits;
 
 pub enum Message {
     // 0501 U-SETUP. Asks the network for a call.
@@ -86,15 +86,6 @@ fn start_agrees(timer: u16, code: u8) -> bool
         return true;
     }
     code == 0
-}
-
-fn message_agrees(m: Message) -> bool
-    ensures { λ r. ⌜ r ≡ messageAgrees m ⌝ }
-{
-    let Message::Start { timer, code } = m else {
-        return true;
-    };
-    start_agrees(timer, code)
 }
 
 // The record of a kind by its number.
@@ -326,241 +317,228 @@ pub fn read_message(s: &[u8]) -> MessageRead
     read_kind(kind, s)
 }
 
-fn message_parts(m: Message) -> Parts
-    ensures { λ r. ⌜ partsOf r ≡ flat messages m ⌝ }
+// Stores a message at the front of a buffer where it fits, whatever its values, and answers how many bytes it took: 0 where it does not fit.
+fn put_message(m: Message, out: &mut [u8]) -> usize
+    ensures { λ r. ⌜ _≡_ {A = ℕ × List ℕ} (r, now (out .exit)) (laidNext (messageBytes m) (now (out .entry)) 0, laid (messageBytes m) (now (out .entry)) 0) ⌝ }
 {
     match m {
-        Message::USetup { address, mode, ask } => Parts {
-            kind: 0x0501,
-            shape: Shape::LongByteByte(Long::A1, Byte::D, Byte::Q),
-            fields: Fields {
-                word: 0,
-                long: address,
-                first: mode,
-                second: ask,
-                third: 0,
-            },
-        },
-        Message::UConnect { id } => Parts {
-            kind: 0x0502,
-            shape: Shape::Word(Word::I),
-            fields: Fields {
-                word: id,
-                long: 0,
-                first: 0,
-                second: 0,
-                third: 0,
-            },
-        },
-        Message::UDisconnect { id, cause } => Parts {
-            kind: 0x0503,
-            shape: Shape::WordByte(Word::I0, Byte::C),
-            fields: Fields {
-                word: id,
-                long: 0,
-                first: cause,
-                second: 0,
-                third: 0,
-            },
-        },
-        Message::URelease { id } => Parts {
-            kind: 0x0504,
-            shape: Shape::Word(Word::I0),
-            fields: Fields {
-                word: id,
-                long: 0,
-                first: 0,
-                second: 0,
-                third: 0,
-            },
-        },
-        Message::UInfo { id, mode } => Parts {
-            kind: 0x0505,
-            shape: Shape::WordByte(Word::I, Byte::D),
-            fields: Fields {
-                word: id,
-                long: 0,
-                first: mode,
-                second: 0,
-                third: 0,
-            },
-        },
-        Message::UTxDemand { id } => Parts {
-            kind: 0x0506,
-            shape: Shape::Word(Word::I),
-            fields: Fields {
-                word: id,
-                long: 0,
-                first: 0,
-                second: 0,
-                third: 0,
-            },
-        },
-        Message::UTxCeased { id } => Parts {
-            kind: 0x0507,
-            shape: Shape::Word(Word::I),
-            fields: Fields {
-                word: id,
-                long: 0,
-                first: 0,
-                second: 0,
-                third: 0,
-            },
-        },
-        Message::UCallRestore { id, address, ask } => Parts {
-            kind: 0x0508,
-            shape: Shape::WordLongByte(Word::I, Long::A, Byte::Q),
-            fields: Fields {
-                word: id,
-                long: address,
-                first: ask,
-                second: 0,
-                third: 0,
-            },
-        },
-        Message::Stop { timer } => Parts {
-            kind: 0x0601,
-            shape: Shape::Word(Word::N),
-            fields: Fields {
-                word: timer,
-                long: 0,
-                first: 0,
-                second: 0,
-                third: 0,
-            },
-        },
-        Message::Start { timer, code } => Parts {
-            kind: 0x0602,
-            shape: Shape::WordByte(Word::N, Byte::O),
-            fields: Fields {
-                word: timer,
-                long: 0,
-                first: code,
-                second: 0,
-                third: 0,
-            },
-        },
-        Message::Configure { plane } => Parts {
-            kind: 0x0603,
-            shape: Shape::Byte(Byte::P),
-            fields: Fields {
-                word: 0,
-                long: 0,
-                first: plane,
-                second: 0,
-                third: 0,
-            },
-        },
-        Message::Cancel => Parts {
-            kind: 0x0604,
-            shape: Shape::Nothing,
-            fields: Fields {
-                word: 0,
-                long: 0,
-                first: 0,
-                second: 0,
-                third: 0,
-            },
-        },
-        Message::SetupIndication { id, address, mode } => Parts {
-            kind: 0x0701,
-            shape: Shape::WordLongByte(Word::I, Long::A, Byte::D),
-            fields: Fields {
-                word: id,
-                long: address,
-                first: mode,
-                second: 0,
-                third: 0,
-            },
-        },
-        Message::SetupConfirm { id, grant } => Parts {
-            kind: 0x0702,
-            shape: Shape::WordByte(Word::I, Byte::G),
-            fields: Fields {
-                word: id,
-                long: 0,
-                first: grant,
-                second: 0,
-                third: 0,
-            },
-        },
-        Message::Proceed => Parts {
-            kind: 0x0703,
-            shape: Shape::Nothing,
-            fields: Fields {
-                word: 0,
-                long: 0,
-                first: 0,
-                second: 0,
-                third: 0,
-            },
-        },
-        Message::Alert => Parts {
-            kind: 0x0704,
-            shape: Shape::Nothing,
-            fields: Fields {
-                word: 0,
-                long: 0,
-                first: 0,
-                second: 0,
-                third: 0,
-            },
-        },
-        Message::Complete { grant } => Parts {
-            kind: 0x0705,
-            shape: Shape::Byte(Byte::G),
-            fields: Fields {
-                word: 0,
-                long: 0,
-                first: grant,
-                second: 0,
-                third: 0,
-            },
-        },
-        Message::ReleaseIndication { cause } => Parts {
-            kind: 0x0706,
-            shape: Shape::Byte(Byte::C),
-            fields: Fields {
-                word: 0,
-                long: 0,
-                first: cause,
-                second: 0,
-                third: 0,
-            },
-        },
-        Message::ReleaseConfirm => Parts {
-            kind: 0x0707,
-            shape: Shape::Nothing,
-            fields: Fields {
-                word: 0,
-                long: 0,
-                first: 0,
-                second: 0,
-                third: 0,
-            },
-        },
-        Message::TxIndication { told } => Parts {
-            kind: 0x0708,
-            shape: Shape::Byte(Byte::X),
-            fields: Fields {
-                word: 0,
-                long: 0,
-                first: told,
-                second: 0,
-                third: 0,
-            },
-        },
-        Message::ModifyIndication { mode } => Parts {
-            kind: 0x0709,
-            shape: Shape::Byte(Byte::D),
-            fields: Fields {
-                word: 0,
-                long: 0,
-                first: mode,
-                second: 0,
-                third: 0,
-            },
-        },
+        Message::USetup { address, mode, ask } => { // U-SETUP a d q
+            if out.len() < 10 {
+                return 0;
+            }
+            put_head(out, 10, 0x0501);
+            put_long(out, 4, address);
+            put_byte(out, 8, mode);
+            put_byte(out, 9, ask);
+            10
+        }
+        Message::UConnect { id } => { // U-CONNECT i
+            if out.len() < 6 {
+                return 0;
+            }
+            put_head(out, 6, 0x0502);
+            put_word(out, 4, id);
+            6
+        }
+        Message::UDisconnect { id, cause } => { // U-DISCONNECT i c
+            if out.len() < 7 {
+                return 0;
+            }
+            put_head(out, 7, 0x0503);
+            put_word(out, 4, id);
+            put_byte(out, 6, cause);
+            7
+        }
+        Message::URelease { id } => { // U-RELEASE i
+            if out.len() < 6 {
+                return 0;
+            }
+            put_head(out, 6, 0x0504);
+            put_word(out, 4, id);
+            6
+        }
+        Message::UInfo { id, mode } => { // U-INFO i d
+            if out.len() < 7 {
+                return 0;
+            }
+            put_head(out, 7, 0x0505);
+            put_word(out, 4, id);
+            put_byte(out, 6, mode);
+            7
+        }
+        Message::UTxDemand { id } => { // U-TX DEMAND i
+            if out.len() < 6 {
+                return 0;
+            }
+            put_head(out, 6, 0x0506);
+            put_word(out, 4, id);
+            6
+        }
+        Message::UTxCeased { id } => { // U-TX CEASED i
+            if out.len() < 6 {
+                return 0;
+            }
+            put_head(out, 6, 0x0507);
+            put_word(out, 4, id);
+            6
+        }
+        Message::UCallRestore { id, address, ask } => { // U-CALL RESTORE i a q
+            if out.len() < 11 {
+                return 0;
+            }
+            put_head(out, 11, 0x0508);
+            put_word(out, 4, id);
+            put_long(out, 6, address);
+            put_byte(out, 10, ask);
+            11
+        }
+        Message::Stop { timer } => { // STOP n
+            if out.len() < 6 {
+                return 0;
+            }
+            put_head(out, 6, 0x0601);
+            put_word(out, 4, timer);
+            6
+        }
+        Message::Start { timer, code } => { // START n o
+            if out.len() < 7 {
+                return 0;
+            }
+            put_head(out, 7, 0x0602);
+            put_word(out, 4, timer);
+            put_byte(out, 6, code);
+            7
+        }
+        Message::Configure { plane } => { // CONFIGURE p
+            if out.len() < 5 {
+                return 0;
+            }
+            put_head(out, 5, 0x0603);
+            put_byte(out, 4, plane);
+            5
+        }
+        Message::Cancel => { // CANCEL
+            if out.len() < 4 {
+                return 0;
+            }
+            put_head(out, 4, 0x0604);
+            4
+        }
+        Message::SetupIndication { id, address, mode } => { // SETUP indication i a d
+            if out.len() < 11 {
+                return 0;
+            }
+            put_head(out, 11, 0x0701);
+            put_word(out, 4, id);
+            put_long(out, 6, address);
+            put_byte(out, 10, mode);
+            11
+        }
+        Message::SetupConfirm { id, grant } => { // SETUP confirm i g
+            if out.len() < 7 {
+                return 0;
+            }
+            put_head(out, 7, 0x0702);
+            put_word(out, 4, id);
+            put_byte(out, 6, grant);
+            7
+        }
+        Message::Proceed => { // PROCEED
+            if out.len() < 4 {
+                return 0;
+            }
+            put_head(out, 4, 0x0703);
+            4
+        }
+        Message::Alert => { // ALERT
+            if out.len() < 4 {
+                return 0;
+            }
+            put_head(out, 4, 0x0704);
+            4
+        }
+        Message::Complete { grant } => { // COMPLETE g
+            if out.len() < 5 {
+                return 0;
+            }
+            put_head(out, 5, 0x0705);
+            put_byte(out, 4, grant);
+            5
+        }
+        Message::ReleaseIndication { cause } => { // RELEASE indication c
+            if out.len() < 5 {
+                return 0;
+            }
+            put_head(out, 5, 0x0706);
+            put_byte(out, 4, cause);
+            5
+        }
+        Message::ReleaseConfirm => { // RELEASE confirm
+            if out.len() < 4 {
+                return 0;
+            }
+            put_head(out, 4, 0x0707);
+            4
+        }
+        Message::TxIndication { told } => { // TX indication x
+            if out.len() < 5 {
+                return 0;
+            }
+            put_head(out, 5, 0x0708);
+            put_byte(out, 4, told);
+            5
+        }
+        Message::ModifyIndication { mode } => { // MODIFY indication d
+            if out.len() < 5 {
+                return 0;
+            }
+            put_head(out, 5, 0x0709);
+            put_byte(out, 4, mode);
+            5
+        }
+    }
+}
+
+// Whether every field is in its letter's range, and START's code is right for its timer.
+fn message_fits(m: Message) -> bool
+    ensures { λ r. ⌜ r ≡ fine messages m ⌝ }
+{
+    match m {
+        Message::USetup { address, mode, ask } => { // U-SETUP a d q
+            long_fits(Long::A1, address) & (byte_fits(Byte::D, mode) & byte_fits(Byte::Q, ask))
+        }
+        Message::UConnect { id } => word_fits(Word::I, id), // U-CONNECT i
+        Message::UDisconnect { id, cause } => { // U-DISCONNECT i c
+            word_fits(Word::I0, id) & byte_fits(Byte::C, cause)
+        }
+        Message::URelease { id } => word_fits(Word::I0, id), // U-RELEASE i
+        Message::UInfo { id, mode } => { // U-INFO i d
+            word_fits(Word::I, id) & byte_fits(Byte::D, mode)
+        }
+        Message::UTxDemand { id } => word_fits(Word::I, id), // U-TX DEMAND i
+        Message::UTxCeased { id } => word_fits(Word::I, id), // U-TX CEASED i
+        Message::UCallRestore { id, address, ask } => { // U-CALL RESTORE i a q
+            word_fits(Word::I, id) & (long_fits(Long::A, address) & byte_fits(Byte::Q, ask))
+        }
+        Message::Stop { timer } => word_fits(Word::N, timer), // STOP n
+        Message::Start { timer, code } => { // START n o
+            word_fits(Word::N, timer) & byte_fits(Byte::O, code) & start_agrees(timer, code)
+        }
+        Message::Configure { plane } => byte_fits(Byte::P, plane), // CONFIGURE p
+        Message::Cancel => true, // CANCEL
+        Message::SetupIndication { id, address, mode } => { // SETUP indication i a d
+            word_fits(Word::I, id) & (long_fits(Long::A, address) & byte_fits(Byte::D, mode))
+        }
+        Message::SetupConfirm { id, grant } => { // SETUP confirm i g
+            word_fits(Word::I, id) & byte_fits(Byte::G, grant)
+        }
+        Message::Proceed => true, // PROCEED
+        Message::Alert => true, // ALERT
+        Message::Complete { grant } => byte_fits(Byte::G, grant), // COMPLETE g
+        Message::ReleaseIndication { cause } => byte_fits(Byte::C, cause), // RELEASE indication c
+        Message::ReleaseConfirm => true, // RELEASE confirm
+        Message::TxIndication { told } => byte_fits(Byte::X, told), // TX indication x
+        Message::ModifyIndication { mode } => byte_fits(Byte::D, mode), // MODIFY indication d
     }
 }
 
@@ -568,26 +546,63 @@ fn message_parts(m: Message) -> Parts
 pub fn write_message(m: Message, buffer: &mut [u8]) -> Written
     ensures { λ r. ⌜ _≡_ {A = Wrote × List ℕ} (asWrote r, now (buffer .exit)) (write messages m (now (buffer .entry))) ⌝ }
 {
-    let parts = message_parts(m);
-    if !parts_fit(parts) {
+    if !message_fits(m) {
         return Written::BadField;
     }
-    if !message_agrees(m) {
-        return Written::BadField;
+    let size = put_message(m, buffer);
+    if size == 0 {
+        return Written::NoRoom;
     }
-    write_parts(parts, buffer)
+    Written::Count(size)
 }
 
 // How many bytes a message takes.
 pub fn message_size(m: Message) -> usize
     ensures { λ r. ⌜ r ≡ messageSize m ⌝ }
 {
-    parts_size(message_parts(m))
+    match m {
+        Message::USetup {
+            address: _,
+            mode: _,
+            ask: _,
+        } => 10, // U-SETUP a d q
+        Message::UConnect { id: _ } => 6, // U-CONNECT i
+        Message::UDisconnect { id: _, cause: _ } => 7, // U-DISCONNECT i c
+        Message::URelease { id: _ } => 6, // U-RELEASE i
+        Message::UInfo { id: _, mode: _ } => 7, // U-INFO i d
+        Message::UTxDemand { id: _ } => 6, // U-TX DEMAND i
+        Message::UTxCeased { id: _ } => 6, // U-TX CEASED i
+        Message::UCallRestore {
+            id: _,
+            address: _,
+            ask: _,
+        } => 11, // U-CALL RESTORE i a q
+        Message::Stop { timer: _ } => 6, // STOP n
+        Message::Start { timer: _, code: _ } => 7, // START n o
+        Message::Configure { plane: _ } => 5, // CONFIGURE p
+        Message::Cancel => 4, // CANCEL
+        Message::SetupIndication {
+            id: _,
+            address: _,
+            mode: _,
+        } => 11, // SETUP indication i a d
+        Message::SetupConfirm { id: _, grant: _ } => 7, // SETUP confirm i g
+        Message::Proceed => 4, // PROCEED
+        Message::Alert => 4, // ALERT
+        Message::Complete { grant: _ } => 5, // COMPLETE g
+        Message::ReleaseIndication { cause: _ } => 5, // RELEASE indication c
+        Message::ReleaseConfirm => 4, // RELEASE confirm
+        Message::TxIndication { told: _ } => 5, // TX indication x
+        Message::ModifyIndication { mode: _ } => 5, // MODIFY indication d
+    }
 }
 
 // Stores a message's bytes from a position on where they fit, whatever its values, and answers the position after them.
 pub fn lay_message(m: Message, buffer: &mut [u8], at: usize) -> usize
     ensures { λ r. ⌜ _≡_ {A = ℕ × List ℕ} (r, now (buffer .exit)) (laidNext (messageBytes m) (now (buffer .entry)) at, laid (messageBytes m) (now (buffer .entry)) at) ⌝ }
 {
-    lay_parts(message_parts(m), buffer, at)
+    if buffer.len() < at {
+        return at;
+    }
+    at + put_message(m, &mut buffer[at..])
 }

@@ -1,8 +1,7 @@
--- The parts are the event's, so that they fit, and are written, as the event.
-use mathlib.Core.Path.{refl}
+-- The fields are tested first, and then the record is stored where it fits.
 use borrow.Author.Needs.{needs}
 use Rattle.records.specs.Events.{events}
-use Rattle.records.proofs.Rows.{misfit, written-as}
+use Rattle.records.proofs.Writing.{untested, tested, bytes-some, put-none, put-all}
 use Rattle.records.proofs.events.write_event.Statement.{statement}
 use Rattle.records.proofs.events.write_event.Tie as tie
 
@@ -11,8 +10,9 @@ write-event-spec =
     tie.close
     (tie.spec
     (λ c κs. search needs)
-    (λ c κs. search needs)
-    (λ c. misfit events _ (c .before .before .event-parts .ensures) (c .before .parts-fit .ensures) (c .if1 .taken))
+    (λ c. untested events _ _ (c .before .event-fits .ensures) (c .if1 .taken))
     (λ c κs. search needs)
     (λ c. search needs)
-    (λ c. written-as events _ (c .before .before .before .before .before .before .event-parts .ensures) (c .before .before .before .before .before .parts-fit .ensures) (c .before .before .before .before .if1 .left) refl (c .before .before .write-parts .ensures)))
+    (λ c. let p = c .before .before .before in let t = p .before .before in tested events _ _ (t .before .event-fits .ensures) (t .if1 .left) (put-none _ _ (p .put-event .ensures) (bytes-some _) (c .if2 .taken)))
+    (λ c. search needs)
+    (λ c. let p = c .before .before .before in let t = p .before .before in tested events _ _ (t .before .event-fits .ensures) (t .if1 .left) (put-all _ _ (p .put-event .ensures) (bytes-some _) (c .if2 .left))))

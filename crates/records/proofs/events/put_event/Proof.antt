@@ -1,0 +1,58 @@
+-- Each arm measures and stores the fields of its kind at the letters of the kind's row.
+use borrow.Author.Needs.{needs}
+use Rattle.records.proofs.Writing.{done, put, too-long, fitting}
+use Rattle.records.proofs.events.put_event.Statement.{statement}
+use Rattle.records.proofs.events.put_event.Tie as tie
+
+pub put-event-spec : {M : Type 1} → statement M
+put-event-spec =
+    tie.close
+    (tie.spec
+    (λ c. search needs) (λ c. rw (c .before .before .e .given .1) (too-long _ _ (c .if1 .taken))) (λ c κs. search needs) (λ c κs. search needs) (λ c κs. search needs) (λ c κs. search needs)
+    (λ c. search needs) (λ c. rw (c .before .enum-told .given .1) (too-long _ _ (c .if2 .taken))) (λ c κs. search needs)
+    (λ c. search needs) (λ c. rw (c .before .enum-told2 .given .1) (too-long _ _ (c .if3 .taken))) (λ c κs. search needs)
+    (λ c. search needs) (λ c. rw (c .before .before .e2 .given .1) (too-long _ _ (c .if4 .taken))) (λ c κs. search needs) (λ c κs. search needs)
+    (λ c. search needs) (λ c. rw (c .before .before .e3 .given .1) (too-long _ _ (c .if5 .taken))) (λ c κs. search needs) (λ c κs. search needs)
+    (λ c. search needs) (λ c. rw (c .before .before .e4 .given .1) (too-long _ _ (c .if6 .taken))) (λ c κs. search needs) (λ c κs. search needs)
+    (λ c. search needs) (λ c. rw (c .before .before .e5 .given .1) (too-long _ _ (c .if7 .taken))) (λ c κs. search needs) (λ c κs. search needs)
+    (λ c. search needs) (λ c. rw (c .before .before .e6 .given .1) (too-long _ _ (c .if8 .taken))) (λ c κs. search needs) (λ c κs. search needs) (λ c κs. search needs) (λ c κs. search needs) (λ c κs. search needs)
+    (λ c. search needs) (λ c. rw (c .before .before .e7 .given .1) (too-long _ _ (c .if9 .taken))) (λ c κs. search needs) (λ c κs. search needs) (λ c κs. search needs) (λ c κs. search needs)
+    (λ c. search needs) (λ c. rw (c .before .before .e8 .given .1) (too-long _ _ (c .if10 .taken))) (λ c κs. search needs) (λ c κs. search needs) (λ c κs. search needs) (λ c κs. search needs)
+    (λ c. search needs) (λ c. rw (c .before .before .e9 .given .1) (too-long _ _ (c .if11 .taken))) (λ c κs. search needs) (λ c κs. search needs) (λ c κs. search needs) (λ c κs. search needs) (λ c κs. search needs)
+    (λ c. search needs) (λ c. rw (c .before .before .e10 .given .1) (too-long _ _ (c .if12 .taken))) (λ c κs. search needs) (λ c κs. search needs) (λ c κs. search needs)
+    (λ c. search needs) (λ c. rw (c .before .before .e11 .given .1) (too-long _ _ (c .if13 .taken))) (λ c κs. search needs) (λ c κs. search needs)
+    (λ c. search needs) (λ c. rw (c .before .before .e12 .given .1) (too-long _ _ (c .if14 .taken))) (λ c κs. search needs) (λ c κs. search needs) (λ c κs. search needs)
+    (λ c. search needs) (λ c. rw (c .before .before .e13 .given .1) (too-long _ _ (c .if15 .taken))) (λ c κs. search needs) (λ c κs. search needs)
+    (λ c. search needs) (λ c. rw (c .before .before .e14 .given .1) (too-long _ _ (c .if16 .taken))) (λ c κs. search needs) (λ c κs. search needs) (λ c κs. search needs)
+    (λ c. search needs) (λ c. rw (c .before .before .e15 .given .1) (too-long _ _ (c .if17 .taken))) (λ c κs. search needs) (λ c κs. search needs) (λ c κs. search needs) (λ c κs. search needs) (λ c κs. search needs)
+    (λ c. search needs) (λ c. rw (c .before .before .e16 .given .1) (too-long _ _ (c .if18 .taken))) (λ c κs. search needs) (λ c κs. search needs)
+    (λ c. search needs) (λ c. rw (c .before .before .e17 .given .1) (too-long _ _ (c .if19 .taken))) (λ c κs. search needs) (λ c κs. search needs)
+    (λ c. search needs) (λ c. rw (c .before .enum-told3 .given .1) (too-long _ _ (c .if20 .taken))) (λ c κs. search needs)
+    (λ c. search needs) (λ c. rw (c .before .enum-told4 .given .1) (too-long _ _ (c .if21 .taken))) (λ c κs. search needs)
+    (λ c. search needs) (λ c. rw (c .before .enum-told5 .given .1) (too-long _ _ (c .if22 .taken))) (λ c κs. search needs)
+    (λ c. search needs) (λ c. rw (c .before .enum-told6 .given .1) (too-long _ _ (c .if23 .taken))) (λ c κs. search needs)
+    (λ c. search needs) (λ c. rw (c .before .before .e18 .given .1) (too-long _ _ (c .if24 .taken))) (λ c κs. search needs) (λ c κs. search needs)
+    (λ c. search needs) (λ c. rw (c .before .before .before .before .before .before .before .before .before .before .before .before .before .before .before .before .before .before .e .given .1) (fitting _ _ (c .before .before .before .before .before .before .before .before .before .before .before .before .before .before .before .before .if1 .left) (c .before .before .before .before .before .before .before .before .before .before .before .before .before .before .put-head .ensures .now) (put (c .before .before .before .before .before .before .before .before .before .before .put-long .ensures .now) (put (c .before .before .before .before .before .before .put-byte .ensures .now) (put (c .before .before .put-byte2 .ensures .now) done)))))
+    (λ c. search needs) (λ c. rw (c .before .before .before .before .before .enum-told .given .1) (fitting _ _ (c .before .before .before .before .if2 .left) (c .before .before .put-head2 .ensures .now) done))
+    (λ c. search needs) (λ c. rw (c .before .before .before .before .before .enum-told2 .given .1) (fitting _ _ (c .before .before .before .before .if3 .left) (c .before .before .put-head3 .ensures .now) done))
+    (λ c. search needs) (λ c. rw (c .before .before .before .before .before .before .before .before .before .before .e2 .given .1) (fitting _ _ (c .before .before .before .before .before .before .before .before .if4 .left) (c .before .before .before .before .before .before .put-head4 .ensures .now) (put (c .before .before .put-byte3 .ensures .now) done)))
+    (λ c. search needs) (λ c. rw (c .before .before .before .before .before .before .before .before .before .before .e3 .given .1) (fitting _ _ (c .before .before .before .before .before .before .before .before .if5 .left) (c .before .before .before .before .before .before .put-head5 .ensures .now) (put (c .before .before .put-byte4 .ensures .now) done)))
+    (λ c. search needs) (λ c. rw (c .before .before .before .before .before .before .before .before .before .before .e4 .given .1) (fitting _ _ (c .before .before .before .before .before .before .before .before .if6 .left) (c .before .before .before .before .before .before .put-head6 .ensures .now) (put (c .before .before .put-word .ensures .now) done)))
+    (λ c. search needs) (λ c. rw (c .before .before .before .before .before .before .before .before .before .before .e5 .given .1) (fitting _ _ (c .before .before .before .before .before .before .before .before .if7 .left) (c .before .before .before .before .before .before .put-head7 .ensures .now) (put (c .before .before .put-word2 .ensures .now) done)))
+    (λ c. search needs) (λ c. rw (c .before .before .before .before .before .before .before .before .before .before .before .before .before .before .before .before .before .before .before .before .before .before .e6 .given .1) (fitting _ _ (c .before .before .before .before .before .before .before .before .before .before .before .before .before .before .before .before .before .before .before .before .if8 .left) (c .before .before .before .before .before .before .before .before .before .before .before .before .before .before .before .before .before .before .put-head8 .ensures .now) (put (c .before .before .before .before .before .before .before .before .before .before .before .before .before .before .put-word3 .ensures .now) (put (c .before .before .before .before .before .before .before .before .before .before .put-byte5 .ensures .now) (put (c .before .before .before .before .before .before .put-byte6 .ensures .now) (put (c .before .before .put-byte7 .ensures .now) done))))))
+    (λ c. search needs) (λ c. rw (c .before .before .before .before .before .before .before .before .before .before .before .before .before .before .before .before .before .before .e7 .given .1) (fitting _ _ (c .before .before .before .before .before .before .before .before .before .before .before .before .before .before .before .before .if9 .left) (c .before .before .before .before .before .before .before .before .before .before .before .before .before .before .put-head9 .ensures .now) (put (c .before .before .before .before .before .before .before .before .before .before .put-word4 .ensures .now) (put (c .before .before .before .before .before .before .put-byte8 .ensures .now) (put (c .before .before .put-byte9 .ensures .now) done)))))
+    (λ c. search needs) (λ c. rw (c .before .before .before .before .before .before .before .before .before .before .before .before .before .before .before .before .before .before .e8 .given .1) (fitting _ _ (c .before .before .before .before .before .before .before .before .before .before .before .before .before .before .before .before .if10 .left) (c .before .before .before .before .before .before .before .before .before .before .before .before .before .before .put-head10 .ensures .now) (put (c .before .before .before .before .before .before .before .before .before .before .put-word5 .ensures .now) (put (c .before .before .before .before .before .before .put-long2 .ensures .now) (put (c .before .before .put-byte10 .ensures .now) done)))))
+    (λ c. search needs) (λ c. rw (c .before .before .before .before .before .before .before .before .before .before .before .before .before .before .before .before .before .before .before .before .before .before .e9 .given .1) (fitting _ _ (c .before .before .before .before .before .before .before .before .before .before .before .before .before .before .before .before .before .before .before .before .if11 .left) (c .before .before .before .before .before .before .before .before .before .before .before .before .before .before .before .before .before .before .put-head11 .ensures .now) (put (c .before .before .before .before .before .before .before .before .before .before .before .before .before .before .put-word6 .ensures .now) (put (c .before .before .before .before .before .before .before .before .before .before .put-byte11 .ensures .now) (put (c .before .before .before .before .before .before .put-byte12 .ensures .now) (put (c .before .before .put-byte13 .ensures .now) done))))))
+    (λ c. search needs) (λ c. rw (c .before .before .before .before .before .before .before .before .before .before .before .before .before .before .e10 .given .1) (fitting _ _ (c .before .before .before .before .before .before .before .before .before .before .before .before .if12 .left) (c .before .before .before .before .before .before .before .before .before .before .put-head12 .ensures .now) (put (c .before .before .before .before .before .before .put-word7 .ensures .now) (put (c .before .before .put-byte14 .ensures .now) done))))
+    (λ c. search needs) (λ c. rw (c .before .before .before .before .before .before .before .before .before .before .e11 .given .1) (fitting _ _ (c .before .before .before .before .before .before .before .before .if13 .left) (c .before .before .before .before .before .before .put-head13 .ensures .now) (put (c .before .before .put-word8 .ensures .now) done)))
+    (λ c. search needs) (λ c. rw (c .before .before .before .before .before .before .before .before .before .before .before .before .before .before .e12 .given .1) (fitting _ _ (c .before .before .before .before .before .before .before .before .before .before .before .before .if14 .left) (c .before .before .before .before .before .before .before .before .before .before .put-head14 .ensures .now) (put (c .before .before .before .before .before .before .put-word9 .ensures .now) (put (c .before .before .put-byte15 .ensures .now) done))))
+    (λ c. search needs) (λ c. rw (c .before .before .before .before .before .before .before .before .before .before .e13 .given .1) (fitting _ _ (c .before .before .before .before .before .before .before .before .if15 .left) (c .before .before .before .before .before .before .put-head15 .ensures .now) (put (c .before .before .put-word10 .ensures .now) done)))
+    (λ c. search needs) (λ c. rw (c .before .before .before .before .before .before .before .before .before .before .before .before .before .before .e14 .given .1) (fitting _ _ (c .before .before .before .before .before .before .before .before .before .before .before .before .if16 .left) (c .before .before .before .before .before .before .before .before .before .before .put-head16 .ensures .now) (put (c .before .before .before .before .before .before .put-word11 .ensures .now) (put (c .before .before .put-byte16 .ensures .now) done))))
+    (λ c. search needs) (λ c. rw (c .before .before .before .before .before .before .before .before .before .before .before .before .before .before .before .before .before .before .before .before .before .before .e15 .given .1) (fitting _ _ (c .before .before .before .before .before .before .before .before .before .before .before .before .before .before .before .before .before .before .before .before .if17 .left) (c .before .before .before .before .before .before .before .before .before .before .before .before .before .before .before .before .before .before .put-head17 .ensures .now) (put (c .before .before .before .before .before .before .before .before .before .before .before .before .before .before .put-word12 .ensures .now) (put (c .before .before .before .before .before .before .before .before .before .before .put-byte17 .ensures .now) (put (c .before .before .before .before .before .before .put-byte18 .ensures .now) (put (c .before .before .put-byte19 .ensures .now) done))))))
+    (λ c. search needs) (λ c. rw (c .before .before .before .before .before .before .before .before .before .before .e16 .given .1) (fitting _ _ (c .before .before .before .before .before .before .before .before .if18 .left) (c .before .before .before .before .before .before .put-head18 .ensures .now) (put (c .before .before .put-word13 .ensures .now) done)))
+    (λ c. search needs) (λ c. rw (c .before .before .before .before .before .before .before .before .before .before .e17 .given .1) (fitting _ _ (c .before .before .before .before .before .before .before .before .if19 .left) (c .before .before .before .before .before .before .put-head19 .ensures .now) (put (c .before .before .put-word14 .ensures .now) done)))
+    (λ c. search needs) (λ c. rw (c .before .before .before .before .before .enum-told3 .given .1) (fitting _ _ (c .before .before .before .before .if20 .left) (c .before .before .put-head20 .ensures .now) done))
+    (λ c. search needs) (λ c. rw (c .before .before .before .before .before .enum-told4 .given .1) (fitting _ _ (c .before .before .before .before .if21 .left) (c .before .before .put-head21 .ensures .now) done))
+    (λ c. search needs) (λ c. rw (c .before .before .before .before .before .enum-told5 .given .1) (fitting _ _ (c .before .before .before .before .if22 .left) (c .before .before .put-head22 .ensures .now) done))
+    (λ c. search needs) (λ c. rw (c .before .before .before .before .before .enum-told6 .given .1) (fitting _ _ (c .before .before .before .before .if23 .left) (c .before .before .put-head23 .ensures .now) done))
+    (λ c. search needs) (λ c. rw (c .before .before .before .before .before .before .before .before .before .before .e18 .given .1) (fitting _ _ (c .before .before .before .before .before .before .before .before .if24 .left) (c .before .before .before .before .before .before .put-head24 .ensures .now) (put (c .before .before .put-word15 .ensures .now) done))))
