@@ -228,7 +228,7 @@ few-special Timers.restoring = tt
 few-special Timers.wait = tt
 few-special Timers.disconnect = record { collides = λ i. refl; ends-first = refl; confirmed = refl; unanswered = refl }
 
-row-short : (c : Call) (e : Event) → Kept c → Clocked c → rowFor c e .taken ≡ true → length (bytesOf (messagesIn (rowFor c e))) ≤ 32
+pub row-short : (c : Call) (e : Event) → Kept c → Clocked c → rowFor c e .taken ≡ true → length (bytesOf (messagesIn (rowFor c e))) ≤ 32
 row-short c e k v h = taken-size 27 (rowFor c e) (within 27 (lit≤ tt) (few-ends (few v)) (is-row c e h) (situated c k) (few-special v))
 
 turn-short : (c : Call) (t : Turn) → Kept c → Clocked c → Turned c t → outcome c t .count ≤ 32

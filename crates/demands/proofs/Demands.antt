@@ -21,6 +21,9 @@ use Rattle.demands.proofs.Identified as Identified
 use Rattle.demands.proofs.Timers as Timers
 use Rattle.demands.proofs.Bound as Bound
 use Rattle.demands.proofs.Examples as Examples
+use Rattle.demands.proofs.Tracked as Tracked
+use Rattle.demands.proofs.Once as Once
+use Rattle.demands.proofs.Expiries as Expiries
 
 -- ---- demand 1
 
@@ -134,3 +137,26 @@ identified = Identified.identified
 
 pub transmits : claims.Transmits
 transmits = Identified.transmits
+
+-- ---- no timer left behind
+
+pub timers-by-messages : claims.TimersByMessages
+timers-by-messages = Tracked.timers-by-messages
+
+pub none-in-idle : claims.NoneInIdle
+none-in-idle = Tracked.none-in-idle
+
+pub one-u-disconnect : claims.OneUDisconnect
+one-u-disconnect = Once.one-u-disconnect
+
+pub one-u-release : claims.OneURelease
+one-u-release = Once.one-u-release
+
+pub release-leaves-fresh : claims.ReleaseLeavesFresh
+release-leaves-fresh = Expiries.release-leaves-fresh
+
+pub late-expiry : claims.LateExpiry
+late-expiry = Expiries.late-expiry
+
+pub due-expiry : claims.DueExpiry
+due-expiry = Expiries.due-expiry

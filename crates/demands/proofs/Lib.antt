@@ -8,9 +8,11 @@ pub mod Demands
 pub mod Drawn
 pub mod Ended
 pub mod Examples
+pub mod Expiries
 pub mod Facts
 pub mod Follows
 pub mod Identified
+pub mod Once
 pub mod Places
 pub mod Ranges
 pub mod Reading
@@ -19,6 +21,7 @@ pub mod Situations
 pub mod Sound
 pub mod Timers
 pub mod Told
+pub mod Tracked
 pub mod Turns
 pub mod Witness
 pub mod WrittenInRange

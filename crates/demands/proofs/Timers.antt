@@ -252,3 +252,10 @@ few (broken {o}) = beside-311 (not (eqb o 0)) false
 few (restoring {o}) = beside-306 (not (eqb o 0))
 few (wait {o}) = beside-311 (not (eqb o 0)) false
 few disconnect = eight
+
+-- the situations in which T310 may run, whether it does or not
+pub data Open : State → Path → Call → Type 0 where
+  open-up : {i a d q s pl k o : ℕ} {u t : Bool} → Open State.CallActive Path.Up (call State.CallActive Path.Up i a d q s pl k o false false false false false u t)
+  open-broken : {i a d q s pl k o : ℕ} {u : Bool} → Open State.CallActive Path.Broken (call State.CallActive Path.Broken i a d q s pl k o false false false false false u false)
+  open-restoring : {i a d q s pl k o : ℕ} {u : Bool} → Open State.CallActive Path.Restoring (call State.CallActive Path.Restoring i a d q s pl k o false false false true false u false)
+  open-wait : {i a d q s pl k o : ℕ} {u : Bool} → Open State.Wait Path.Up (call State.Wait Path.Up i a d q s pl k o false false false false false u false)

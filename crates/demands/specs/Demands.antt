@@ -22,9 +22,10 @@ use Rattle.callcontrol.specs.declared.call.Call.{Call}
 use Rattle.callcontrol.specs.Call.{freshCall, sound, pathNumber, runs, isIdle, T301, T302, T310}
 use Rattle.callcontrol.specs.Rows.{rowFor}
 use Rattle.callcontrol.specs.Writing.{messagesIn, bytesOf}
-use Rattle.callcontrol.specs.Step.{refusalAt, stepOf, otherCall}
-use Rattle.demands.specs.Runs.{Turn, outcome, next, run, takenBy, takenIn, writtenBy, writtenIn, every?, told, ends}
+use Rattle.callcontrol.specs.Step.{refusal, refusalAt, stepOf, otherCall}
+use Rattle.demands.specs.Runs.{Turn, outcome, next, run, takenBy, takenIn, writtenBy, writtenIn, every?, isUDisconnect, isURelease, told, ends}
 use Rattle.demands.specs.Examples.{turn, setupRequest, dConnect}
+use Rattle.demands.specs.Clocks.{logIn, runningBy, runsBy}
 use Rattle.demands.specs.History.{planeByHistory, idByHistory}
 
 -- Demand 1: every turn gets an answer; the lowest number that applies; a refusal writes no byte and gives the record back
@@ -286,3 +287,56 @@ Transmits =
     × (run freshCall ts .path ≡ Path.Up)
     × (run freshCall ts .id ≡ idByHistory (takenIn freshCall ts))
     × (run freshCall ts .id ≡ 0 → ⊥)
+
+-- No timer left behind
+
+-- after any turns the timers that run by the messages written and the expiries taken are those in the record
+abbrev pub TimersByMessages : Type 0
+TimersByMessages = (ts : List Turn) → runningBy (logIn freshCall ts) ≡ run freshCall ts .timers
+
+-- and none runs in IDLE
+abbrev pub NoneInIdle : Type 0
+NoneInIdle = (ts : List Turn) → isIdle (run freshCall ts) ≡ true → runningBy (logIn freshCall ts) ≡ runningBy []
+
+-- turns of one call: no record between two of them is in IDLE; the first may leave IDLE, and the last may come back to it
+unfoldable pub oneCall : Call → List Turn → Bool
+oneCall c [] = true
+oneCall c (t ∷ []) = true
+oneCall c (t ∷ u ∷ us) = not (isIdle (next c t)) && oneCall (next c t) (u ∷ us)
+
+-- how many of some messages are such
+abbrev pub count : (Message → Bool) → List Message → ℕ
+count p [] = 0
+count p (m ∷ ms) = cond (p m) 1 0 + count p ms
+
+abbrev pub AtMostOne : (Message → Bool) → Type 0
+AtMostOne p = (ts us : List Turn) → oneCall (run freshCall ts) us ≡ true → count p (writtenIn (run freshCall ts) us) ≤ 1
+
+-- one call writes at most one U-DISCONNECT and at most one U-RELEASE
+abbrev pub OneUDisconnect : Type 0
+OneUDisconnect = AtMostOne isUDisconnect
+
+abbrev pub OneURelease : Type 0
+OneURelease = AtMostOne isURelease
+
+-- a RELEASE request and then an expiry of T308, each taken or refused, leave the fresh record, if at least 32 bytes are lent to both
+abbrev pub ReleaseLeavesFresh : Type 0
+ReleaseLeavesFresh =
+    (ts : List Turn) (t u : Turn) →
+    read events (t .event) ≡ taken ReleaseRequest →
+    read events (u .event) ≡ taken (Expiry 308) →
+    32 ≤ length (t .buffer) → 32 ≤ length (u .buffer) → run freshCall (ts ++ t ∷ u ∷ []) ≡ freshCall
+
+-- an expiry that comes late, of a timer that does not run by the messages, is refused with 6 and changes nothing
+abbrev pub LateExpiry : Type 0
+LateExpiry =
+    (ts : List Turn) (t : Turn) (n : ℕ) →
+    read events (t .event) ≡ taken (Expiry n) →
+    runsBy (logIn freshCall ts) n ≡ false → outcome (run freshCall ts) t ≡ refusal 6 (run freshCall ts) (t .buffer)
+
+-- and an expiry of one that runs by them is always taken where 32 bytes are lent
+abbrev pub DueExpiry : Type 0
+DueExpiry =
+    (ts : List Turn) (t : Turn) (n : ℕ) →
+    read events (t .event) ≡ taken (Expiry n) →
+    runsBy (logIn freshCall ts) n ≡ true → 32 ≤ length (t .buffer) → takenBy (run freshCall ts) t ≡ some (Expiry n)

@@ -1,5 +1,6 @@
 pub mod Runs
 pub mod History
+pub mod Clocks
 pub mod Demands
 pub mod Examples
 pub mod Witness

@@ -129,3 +129,50 @@ every? p (m ∷ ms) = p m && every? p ms
 -- a turn in which the call ends
 unfoldable pub ends : Call → Turn → Bool
 ends c t = some? endsCall (writtenBy c t)
+
+-- the two PDUs that end a call
+unfoldable pub isUDisconnect : Message → Bool
+isUDisconnect (USetup a d q) = false
+isUDisconnect (UConnect i) = false
+isUDisconnect (UDisconnect i c) = true
+isUDisconnect (URelease i) = false
+isUDisconnect (UInfo i d) = false
+isUDisconnect (UTxDemand i) = false
+isUDisconnect (UTxCeased i) = false
+isUDisconnect (UCallRestore i a q) = false
+isUDisconnect (Stop n) = false
+isUDisconnect (Start n o) = false
+isUDisconnect (Configure plane) = false
+isUDisconnect Cancel = false
+isUDisconnect (SetupIndication i a d) = false
+isUDisconnect (SetupConfirm i g) = false
+isUDisconnect Proceed = false
+isUDisconnect Alert = false
+isUDisconnect (Complete g) = false
+isUDisconnect (ReleaseIndication c) = false
+isUDisconnect ReleaseConfirm = false
+isUDisconnect (TxIndication x) = false
+isUDisconnect (ModifyIndication d) = false
+
+unfoldable pub isURelease : Message → Bool
+isURelease (USetup a d q) = false
+isURelease (UConnect i) = false
+isURelease (UDisconnect i c) = false
+isURelease (URelease i) = true
+isURelease (UInfo i d) = false
+isURelease (UTxDemand i) = false
+isURelease (UTxCeased i) = false
+isURelease (UCallRestore i a q) = false
+isURelease (Stop n) = false
+isURelease (Start n o) = false
+isURelease (Configure plane) = false
+isURelease Cancel = false
+isURelease (SetupIndication i a d) = false
+isURelease (SetupConfirm i g) = false
+isURelease Proceed = false
+isURelease Alert = false
+isURelease (Complete g) = false
+isURelease (ReleaseIndication c) = false
+isURelease ReleaseConfirm = false
+isURelease (TxIndication x) = false
+isURelease (ModifyIndication d) = false

@@ -14,8 +14,9 @@ use Rattle.records.specs.declared.messages.Message.the-variants.{URelease, Stop
 use Rattle.callcontrol.specs.declared.call.Call.{Call}
 use Rattle.callcontrol.specs.Call.{freshCall, stateNumber, pathNumber, _⇒_}
 use Rattle.callcontrol.specs.Step.{Outcome}
-use Rattle.demands.specs.Runs.{Turn, outcome, next, run, takenBy, writtenBy, told, ends}
-use Rattle.demands.specs.Demands.{quiet, applies}
+use Rattle.demands.specs.Runs.{Turn, outcome, next, run, takenBy, writtenBy, writtenIn, isUDisconnect, isURelease, told, ends}
+use Rattle.demands.specs.Demands.{quiet, applies, oneCall, count}
+use Rattle.demands.specs.Clocks.{logIn, runningBy}
 
 -- 64 bytes are lent
 abbrev zeros : ℕ → List ℕ
@@ -98,6 +99,19 @@ unsent = line (10 ∷ 0 ∷ 1 ∷ 1 ∷ 7 ∷ 0 ∷ 0 ∷ 0 ∷ 0 ∷ 1 ∷ []) 
 abbrev pub takenBack : List Line
 takenBack = line (10 ∷ 0 ∷ 1 ∷ 1 ∷ 7 ∷ 0 ∷ 0 ∷ 0 ∷ 0 ∷ 1 ∷ []) 0 1 0 4 false ∷ line (4 ∷ 0 ∷ 3 ∷ 1 ∷ []) 0 0 0 4 true ∷ []
 
+-- a call that both sides end at once: RELEASE request before it is answered, and D-DISCONNECT before U-DISCONNECT is sent; then T310 expires late,
+-- and a second call begins
+abbrev pub colliding : List Line
+colliding =
+    line (10 ∷ 0 ∷ 1 ∷ 1 ∷ 7 ∷ 0 ∷ 0 ∷ 0 ∷ 0 ∷ 1 ∷ []) 0 1 0 4 false
+    ∷ line (6 ∷ 0 ∷ 2 ∷ 2 ∷ 21 ∷ 0 ∷ []) 0 1 0 4 false
+    ∷ line (4 ∷ 0 ∷ 3 ∷ 1 ∷ []) 0 5 0 4 false
+    ∷ line (6 ∷ 0 ∷ 13 ∷ 2 ∷ 21 ∷ 0 ∷ []) 0 0 0 4 true
+    ∷ line (6 ∷ 0 ∷ 1 ∷ 4 ∷ 54 ∷ 1 ∷ []) 6 0 0 4 false
+    ∷ line (11 ∷ 0 ∷ 5 ∷ 2 ∷ 9 ∷ 0 ∷ 7 ∷ 0 ∷ 0 ∷ 0 ∷ 0 ∷ []) 0 2 0 4 false
+    ∷ line (4 ∷ 0 ∷ 2 ∷ 1 ∷ []) 0 2 0 4 false
+    ∷ []
+
 -- two records are the same, by all their places
 unfoldable pub flags : List Bool → List ℕ
 flags [] = []
@@ -132,7 +146,7 @@ goesSo ts (l ∷ ls) =
     && goesSo (ts ++ turn (l .event) ∷ []) ls
 
 abbrev pub stories : List (List Line)
-stories = outgoing ∷ incoming ∷ lost ∷ unsent ∷ takenBack ∷ []
+stories = outgoing ∷ incoming ∷ lost ∷ unsent ∷ takenBack ∷ colliding ∷ []
 
 -- one story after the other
 abbrev pub allGoSo : List (List Line) → Bool
@@ -231,8 +245,50 @@ abbrev pub twices : List Twice
 twices =
     twice (5 ∷ 0 ∷ 9 ∷ 9 ∷ []) 2 3 ∷ twice (7 ∷ 0 ∷ 2 ∷ 2 ∷ 0 ∷ 0 ∷ []) 2 4 ∷ twice (6 ∷ 0 ∷ 2 ∷ 2 ∷ 5 ∷ 0 ∷ []) 5 6 ∷ []
 
+-- the timers that run after some turns of a story, by the messages, as their numbers
+pub record Clock : Type 0 where
+  pub turns : List Turn
+  pub running : List ℕ
+
+abbrev pub clock : List Line → ℕ → List ℕ → Clock
+clock ls n ns = record { turns = take n (turnsOf ls); running = ns }
+
+unfoldable pub numbersOf : List Bool → List ℕ → List ℕ
+numbersOf [] ns = []
+numbersOf (b ∷ bs) [] = []
+numbersOf (b ∷ bs) (n ∷ ns) = cond b (n ∷ numbersOf bs ns) (numbersOf bs ns)
+
+abbrev pub Shows : Clock → Type 0
+Shows x = numbersOf (runningBy (logIn freshCall (x .turns))) (301 ∷ 302 ∷ 303 ∷ 306 ∷ 308 ∷ 310 ∷ 311 ∷ []) ≡ x .running
+
+-- timers start, are stopped, expire; two calls one after the other; a colliding release
+abbrev pub clocks : List Clock
+clocks =
+    clock outgoing 1 (303 ∷ [])
+    ∷ clock outgoing 3 (310 ∷ 311 ∷ [])
+    ∷ clock outgoing 4 (310 ∷ [])
+    ∷ clock outgoing 6 (306 ∷ 310 ∷ [])
+    ∷ clock outgoing 12 (308 ∷ [])
+    ∷ clock outgoing 14 []
+    ∷ clock incoming 7 (310 ∷ [])
+    ∷ clock incoming 8 (308 ∷ [])
+    ∷ clock incoming 9 []
+    ∷ clock colliding 2 (302 ∷ [])
+    ∷ clock colliding 3 (308 ∷ [])
+    ∷ clock colliding 5 []
+    ∷ clock colliding 7 (301 ∷ [])
+    ∷ []
+
+-- one call writes as many of each as it may: U-DISCONNECT with the RELEASE request, U-RELEASE with the D-DISCONNECT
+pub record Collides : Type 0 where
+  pub whole : oneCall freshCall (take 4 (turnsOf colliding)) ≡ true
+  pub disconnects : count isUDisconnect (writtenIn freshCall (take 4 (turnsOf colliding))) ≡ 1
+  pub releases : count isURelease (writtenIn freshCall (take 4 (turnsOf colliding))) ≡ 1
+
 pub record Witness : Type 0 where
   pub lines : allGoSo stories ≡ true
   pub cuts : Each Premises cuttings
   pub ends : Each Writes endings
   pub lowest : lowerGiven twices ≡ true
+  pub timers : Each Shows clocks
+  pub collides : Collides
