@@ -1,12 +1,16 @@
 //! Library and account agree, byte for byte, on millions of generated steps: on runs from fresh,
-//! on sound records out of reach, on records that are none, and on damaged events.
+//! on sound records out of reach, on records that are none, and on damaged events. After each of them
+//! the timers that run by the messages written and the expiries taken are those in the record.
 
-use callcontrol_tests::account::{boundary, records, Call, Event, History, Message, Plane};
+use callcontrol_tests::account::running::Running;
+use callcontrol_tests::account::{
+    boundary, records, Call, Event, History, Message, Plane, State, Timer,
+};
 use callcontrol_tests::generate::{
     damaged_event, damaged_record, event, likely_event, sound_record, Bytes, Random,
 };
 use callcontrol_tests::request::Request;
-use callcontrol_tests::sidebyside::{tell, Queue};
+use callcontrol_tests::sidebyside::{tell, Queue, Said};
 use std::thread;
 
 const THREADS: u64 = 2;
@@ -41,6 +45,39 @@ fn identifier_like(random: &mut Random, held: u16) -> u16 {
     }
 }
 
+/// The timers that run after a step by what was taken and written.
+fn running_after(before: Running, event: &[u8], step: &Said) -> Running {
+    if step.answer != 0 {
+        return before;
+    }
+    let taken = before.taken(Event::read(event).expect("what is taken can be read"));
+    records::messages(step.written()).fold(taken, |running, message| {
+        let message = message.expect("only messages are written");
+        running.told(message).expect("STOP is written only for a running timer")
+    })
+}
+
+/// One step from a record that was not reached: the timers that its own flags say, and then the
+/// messages. Not so where a call ends before U-SETUP was sent: those rows stop T303 alone, which from
+/// fresh is the only one that can run there.
+fn timers_agree(before: &[u8], event: &[u8], step: &Said) {
+    if let (Some(before), Some(after)) = (Call::unpack(before), Call::unpack(step.record)) {
+        let running = running_after(Running { timers: before.timers }, event, step);
+        let ends_unsent = step.answer == 0
+            && (before.state, before.sent) == (State::MoCallSetup, false)
+            && after == Call::FRESH
+            && !matches!(
+                Event::read(event),
+                Ok(Event::DDisconnect { .. } | Event::DRelease { .. })
+            );
+        if ends_unsent {
+            assert!(!running.running(Timer::T303), "STOP for T303");
+        } else {
+            assert_eq!(running.timers, after.timers, "the timers by the messages are those held");
+        }
+    }
+}
+
 fn runs_from_fresh(seed: u64) -> Answers {
     let mut random = Random::new(seed);
     let mut queue = Queue::new();
@@ -58,6 +95,7 @@ fn runs_from_fresh(seed: u64) -> Answers {
         let mut record = fresh.next();
         let mut history = History::EMPTY;
         let mut told = Plane::Off;
+        let mut running = Running::NONE;
         for _ in 0..steps {
             let call = Call::unpack(&record).expect("a step gives a record back");
             let bytes = match random.below(16) {
@@ -76,6 +114,7 @@ fn runs_from_fresh(seed: u64) -> Answers {
             let step = queue.step(&record, bytes.as_slice(), out_len, random.byte());
             answers[step.answer as usize] += 1;
             record = step.next();
+            running = running_after(running, bytes.as_slice(), &step);
 
             if step.answer == 0 {
                 let event = Event::read(bytes.as_slice()).expect("what is taken can be read");
@@ -86,7 +125,10 @@ fn runs_from_fresh(seed: u64) -> Answers {
                     }
                 }
             }
-            let plane = Call::unpack(&record).expect("a step gives a record back").plane;
+            let Call { state, plane, timers, .. } =
+                Call::unpack(&record).expect("a step gives a record back");
+            assert_eq!(running.timers, timers, "the timers by the messages are those held");
+            assert!(state != State::Idle || running == Running::NONE, "none runs in IDLE");
             assert_eq!(told, plane, "the last CONFIGURE is the plane held");
             assert_eq!(history.plane(), plane, "the plane by history is the plane held");
         }
@@ -108,9 +150,10 @@ fn sound_records_out_of_reach(seed: u64) -> Answers {
             event(&mut random, i)
         };
         let out_len = out_len(&mut random);
-        let step =
-            queue.step(&call.pack(), Bytes::of_event(event).as_slice(), out_len, random.byte());
+        let bytes = Bytes::of_event(event);
+        let step = queue.step(&call.pack(), bytes.as_slice(), out_len, random.byte());
         answers[step.answer as usize] += 1;
+        timers_agree(&call.pack(), bytes.as_slice(), &step);
         let next = Call::unpack(step.record).expect("a step gives a record back");
         assert!(next.sound(), "every step from a sound record gives a sound one");
     }
@@ -134,6 +177,7 @@ fn records_that_are_none(seed: u64) -> Answers {
         let out_len = out_len(&mut random);
         let step = queue.step(record.as_slice(), bytes.as_slice(), out_len, random.byte());
         answers[step.answer as usize] += 1;
+        timers_agree(record.as_slice(), bytes.as_slice(), &step);
     }
     queue.finish();
     answers
@@ -154,6 +198,7 @@ fn damaged_events(seed: u64) -> Answers {
         let out_len = out_len(&mut random);
         let step = queue.step(&call.pack(), bytes.as_slice(), out_len, random.byte());
         answers[step.answer as usize] += 1;
+        timers_agree(&call.pack(), bytes.as_slice(), &step);
     }
     queue.finish();
     answers

@@ -12,6 +12,7 @@ pub mod call;
 pub mod history;
 pub mod pieces;
 pub mod records;
+pub mod running;
 pub mod step;
 
 pub use call::{Call, Path, State, RECORD_LEN};
