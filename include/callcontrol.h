@@ -46,7 +46,10 @@ extern "C" {
 
 /* ---- Answers ------------------------------------------------------------------------------- */
 
-/* The lowest number that applies is given. A refusal counts 0 bytes and changes no byte. */
+/*
+ * The lowest number that applies is given, but that 8 comes after 6 and before 7. A refusal counts
+ * 0 bytes and changes no byte.
+ */
 enum callcontrol_answer {
     CALLCONTROL_TAKEN = 0,        /* taken; bytes written are counted */
     CALLCONTROL_NOT_SOUND = 1,    /* the bytes are no call record, or it is not sound */
@@ -55,7 +58,8 @@ enum callcontrol_answer {
     CALLCONTROL_BAD_BODY = 4,     /* body size or a field out of range */
     CALLCONTROL_OTHER_CALL = 5,   /* a network event whose identifier is not the held one */
     CALLCONTROL_NO_ROW = 6,       /* nothing is foreseen for this event in this state */
-    CALLCONTROL_NO_ROOM = 7       /* the messages are longer than the lent buffer */
+    CALLCONTROL_NO_ROOM = 7,      /* the messages are longer than the lent buffer */
+    CALLCONTROL_OWN_TRANSMISSION = 8 /* D-INFO in plane 1 or 3; after 6 and before 7 */
 };
 
 /* Of callcontrol_pieces_next: 0 and 1 as above, and these, in the order 22, 21, 20. */

@@ -72,7 +72,7 @@ fn label(event: Event) -> (u32, String) {
         Event::DConnect { .. } => (9, "D-CONNECT"),
         Event::DConnectAcknowledge { .. } => (10, "D-CONNECT ACKNOWLEDGE"),
         Event::DSetup { .. } => (11, "D-SETUP"),
-        Event::DInfo { .. } => (12, "D-INFO"),
+        Event::DInfo { .. } => (12, "D-INFO in plane 2 or 4"),
         Event::DTxGranted { .. } => (13, "D-TX GRANTED"),
         Event::DTxCeased { .. } => (14, "D-TX CEASED"),
         Event::DTxInterrupt { .. } => (15, "D-TX INTERRUPT"),

@@ -52,6 +52,7 @@ histories! {
     modify
     no_limit_outgoing
     no_limit_restored
+    own_transmission
     expiry_t301
     expiry_t302
     expiry_t303

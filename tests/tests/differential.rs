@@ -25,7 +25,7 @@ const STEPS_IN_ALL: u64 = THREADS
 const _: () = assert!(STEPS_IN_ALL >= 20_000_000);
 
 /// Steps seen, by answer.
-type Answers = [u64; 8];
+type Answers = [u64; 9];
 
 /// Mostly room enough, and every length from 0 to 64.
 fn out_len(random: &mut Random) -> usize {
@@ -214,7 +214,7 @@ fn library_and_account_agree_on_generated_steps() {
         ("damaged events", damaged_events),
     ];
     let mut all = Answers::default();
-    tell("steps by answer                      0         1         2         3         4         5         6         7");
+    tell("steps by answer                      0         1         2         3         4         5         6         7         8");
     for (number, (name, part)) in parts.into_iter().enumerate() {
         let answers = thread::scope(|scope| {
             let threads: Vec<_> = (0..THREADS)
@@ -223,14 +223,14 @@ fn library_and_account_agree_on_generated_steps() {
             let mut sum = Answers::default();
             for thread in threads {
                 match thread.join() {
-                    Ok(answers) => (0..8).for_each(|answer| sum[answer] += answers[answer]),
+                    Ok(answers) => (0..9).for_each(|answer| sum[answer] += answers[answer]),
                     Err(difference) => std::panic::resume_unwind(difference),
                 }
             }
             sum
         });
         tell(&row(name, &answers));
-        (0..8).for_each(|answer| all[answer] += answers[answer]);
+        (0..9).for_each(|answer| all[answer] += answers[answer]);
     }
     tell(&row("all", &all));
     assert_eq!(all.iter().sum::<u64>(), STEPS_IN_ALL);

@@ -19,7 +19,7 @@ fn every_reachable_record_and_event_agree() {
     let events = written(alphabet(&Letters::ENDS));
     let first = Node { record: Call::FRESH.pack(), history: History::EMPTY };
     let mut steps = 0u64;
-    let mut answers = [0u64; 8];
+    let mut answers = [0u64; 9];
     let mut longest = 0;
     let mut longest_steps = HashSet::new();
     let mut queue = Queue::new();
@@ -71,7 +71,7 @@ fn every_reachable_record_and_event_agree() {
         nodes.len(),
     ));
     // Nothing unsound, no damaged event was handed in; every other answer must have come up.
-    for answer in [0, 5, 6, 7] {
+    for answer in [0, 5, 6, 7, 8] {
         assert!(answers[answer] > 0, "answer {answer} was never seen");
     }
     assert!(records.len() > 1000, "the alphabet reaches too little to show anything");

@@ -427,10 +427,10 @@ fn t310_without_a_limit() {
 #[test]
 fn d_info() {
     let info = |r, o, d| DInfo { i: I, r, o, d };
-    for &plane in &[Plane::Transmit, Plane::Receive, Plane::Off] {
+    for &plane in &[Plane::Receive, Plane::Off] {
         let call = active(plane);
         let again = Configure { p: plane };
-        // The mode stays: the plane is told again, T311 as it is.
+        // The mode stays: the plane is told again.
         row(call, info(false, None, Simplex), call, &[again, ModifyIndication { d: Simplex }]);
         row(call, info(false, Some(9), Simplex), call, &[again, ModifyIndication { d: Simplex }]);
         row(
@@ -448,13 +448,13 @@ fn d_info() {
     }
     // The mode changes: off.
     row(
-        active(Plane::Transmit),
+        active(Plane::Receive),
         info(true, Some(0), Duplex),
         duplex(unlimited(active(Plane::Off))),
-        &[stop(T310), stop(T311), OFF, ModifyIndication { d: Duplex }],
+        &[stop(T310), OFF, ModifyIndication { d: Duplex }],
     );
     row(
-        duplex(active(Plane::TransmitAndReceive)),
+        duplex(active(Plane::Receive)),
         info(false, Some(0), Simplex),
         active(Plane::Off),
         &[OFF, ModifyIndication { d: Simplex }],
@@ -462,6 +462,28 @@ fn d_info() {
     no_row(broken(), info(false, None, Simplex));
     no_row(restoring(), info(false, None, Simplex));
     no_row(wait(Plane::Off), info(false, None, Simplex));
+}
+
+/// No change of service over a speaker: D-INFO is refused with 8 in planes 1 and 3, whatever it
+/// brings, before 7 and after 5.
+#[test]
+fn d_info_over_own_transmission() {
+    for call in [active(Plane::Transmit), duplex(active(Plane::TransmitAndReceive))] {
+        for (r, o) in [(false, None), (true, None), (true, Some(9)), (true, Some(0))] {
+            for d in [Simplex, Duplex] {
+                let info = DInfo { i: I, r, o, d };
+                refused(8, call, info);
+                refused(5, call, DInfo { i: I + 1, r, o, d });
+                // With no room at all 7 applies too, and 8 is given.
+                let mut record = call.pack();
+                let word = library::step(&mut record, Bytes::of_event(info).as_slice(), &mut []);
+                assert_eq!(library::split(word), (8, 0));
+                assert_eq!(record, call.pack());
+            }
+        }
+    }
+    // Sound and out of reach: plane 3 in a simplex call.
+    refused(8, active(Plane::TransmitAndReceive), DInfo { i: I, r: false, o: None, d: Simplex });
 }
 
 #[test]

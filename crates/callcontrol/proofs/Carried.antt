@@ -14,7 +14,7 @@ use Rattle.callcontrol.specs.Draft.{noRow}
 use Rattle.callcontrol.specs.Rows.{rowFor}
 use Rattle.callcontrol.specs.Settle.{settled, draftOf}
 use Rattle.callcontrol.specs.Writing.{messagesIn, bytesOf, Laid}
-use Rattle.callcontrol.specs.Step.{Outcome, refusal, otherCall, carried, decided}
+use Rattle.callcontrol.specs.Step.{Outcome, refusal, otherCall, overTransmission, carried, decided}
 use Rattle.callcontrol.proofs.Laying.{lay-fits}
 
 pub too-long : (c : Call) (d : Draft) (b : List ℕ) (n : ℕ) → n ≡ length (bytesOf (messagesIn d)) → length b < n → refusal 7 c b ≡ carried c d b
@@ -29,12 +29,14 @@ fitting c d b after n end size room laid =
     rw (size, le-leb _ _ (rw size at room), ap (λ (w : ℕ × List ℕ). w .1) whole)
 
 by-row : (c : Call) (e : Event) (b : List ℕ) (d : Draft) (x : Outcome) → otherCall c e ≡ false → d ≡ rowFor c e → d .taken ≡ true
-    → x ≡ carried c d b → x ≡ decided c e b
+    → x ≡ cond (overTransmission c e) (refusal 8 c b) (carried c d b) → x ≡ decided c e b
 unfolding decided
 by-row c e b d x agrees row taken h =
     let t : rowFor c e .taken ≡ true = ap (λ (w : Draft). w .taken) (sym row) ∙ taken in
     rw agrees
-    (h ∙ ap (λ (w : Draft). carried c w b) row ∙ ap (λ (s : Bool). cond s (carried c (rowFor c e) b) (refusal 6 c b)) (sym t))
+    (h
+    ∙ ap (λ (w : Draft). cond (overTransmission c e) (refusal 8 c b) (carried c w b)) row
+    ∙ ap (λ (s : Bool). cond s (cond (overTransmission c e) (refusal 8 c b) (carried c (rowFor c e) b)) (refusal 6 c b)) (sym t))
 
 -- a row, and the draft that it stands for
 
@@ -47,9 +49,14 @@ unfolding settled
 settled-taken c r = refl
 
 pub by-orders : (c : Call) (e : Event) (b : List ℕ) (r : Row) (d : Draft) (x : Outcome) → otherCall c e ≡ false → draftOf c r ≡ rowFor c e
-    → (r .orders ≡ 0 → ⊥) → d ≡ settled c r → x ≡ carried c d b → x ≡ decided c e b
-by-orders c e b r d x agrees row some settle h =
-    by-row c e b d x agrees (settle ∙ settled-row c r (rowFor c e) row some) (ap (λ (w : Draft). w .taken) settle ∙ settled-taken c r) h
+    → (r .orders ≡ 0 → ⊥) → overTransmission c e ≡ false → d ≡ settled c r → x ≡ carried c d b → x ≡ decided c e b
+by-orders c e b r d x agrees row some silent settle h =
+    by-row c e b d x agrees (settle ∙ settled-row c r (rowFor c e) row some) (ap (λ (w : Draft). w .taken) settle ∙ settled-taken c r) (rw silent h)
+
+pub by-transmission : (c : Call) (e : Event) (b : List ℕ) (r : Row) → otherCall c e ≡ false → draftOf c r ≡ rowFor c e → (r .orders ≡ 0 → ⊥)
+    → overTransmission c e ≡ true → refusal 8 c b ≡ decided c e b
+by-transmission c e b r agrees row some over =
+    by-row c e b (settled c r) (refusal 8 c b) agrees (settled-row c r (rowFor c e) row some) (settled-taken c r) (rw over refl)
 
 no-row : (c : Call) (r : Row) (d : Draft) → draftOf c r ≡ d → r .orders ≡ 0 → d .taken ≡ false
 unfolding draftOf noRow

@@ -15,7 +15,7 @@ answer-back n =
     (cond (eqb n 1) Answer.NotSound
     (cond (eqb n 2) Answer.BadLength
     (cond (eqb n 3) Answer.UnknownKind
-    (cond (eqb n 4) Answer.BadBody (cond (eqb n 5) Answer.OtherCall (cond (eqb n 6) Answer.NoRow Answer.NoRoom))))))
+    (cond (eqb n 4) Answer.BadBody (cond (eqb n 5) Answer.OtherCall (cond (eqb n 6) Answer.NoRow (cond (eqb n 7) Answer.NoRoom Answer.OwnTransmission)))))))
 
 answer-same : (a : Answer) → answer-back (answerNumber a) ≡ a
 unfolding answer-back
@@ -27,6 +27,7 @@ answer-same Answer.BadBody = refl
 answer-same Answer.OtherCall = refl
 answer-same Answer.NoRow = refl
 answer-same Answer.NoRoom = refl
+answer-same Answer.OwnTransmission = refl
 
 -- what an outcome says of the code's result
 back : Outcome → Stepped

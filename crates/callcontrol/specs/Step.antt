@@ -71,6 +71,37 @@ differs c (Named.Id i) = not (eqb i (c .id)) && (not (eqb (c .id) 0) || isIdle c
 unfoldable pub otherCall : Call → Event → Bool
 otherCall c e = differs c (namedIn e)
 
+-- the set has the U-plane to transmit
+abbrev pub transmits : Call → Bool
+transmits c = eqb (c .plane) 1 || eqb (c .plane) 3
+
+-- D-INFO while the set transmits
+abbrev pub overTransmission : Call → Event → Bool
+overTransmission c (SetupRequest a d q) = false
+overTransmission c SetupResponse = false
+overTransmission c ReleaseRequest = false
+overTransmission c (TxRequest k) = false
+overTransmission c (ModifyRequest d) = false
+overTransmission c (DCallProceeding i) = false
+overTransmission c (DAlert i) = false
+overTransmission c (DConnect i g d o) = false
+overTransmission c (DConnectAcknowledge i g o) = false
+overTransmission c (DSetup i a d) = false
+overTransmission c (DInfo i r o d) = transmits c
+overTransmission c (DTxGranted i g) = false
+overTransmission c (DTxCeased i) = false
+overTransmission c (DTxInterrupt i g) = false
+overTransmission c (DTxWait i) = false
+overTransmission c (DTxContinue i k) = false
+overTransmission c (DCallRestore i g r o) = false
+overTransmission c (DDisconnect i) = false
+overTransmission c (DRelease i) = false
+overTransmission c ReportSent = false
+overTransmission c ReportFailed = false
+overTransmission c Break = false
+overTransmission c Resume = false
+overTransmission c (Expiry n) = false
+
 -- a row's messages into the lent buffer, where they fit
 unfoldable pub carried : Call → Draft → List ℕ → Outcome
 carried c d buffer =
@@ -78,11 +109,13 @@ carried c d buffer =
     (record { answer = 0; place = 0; call = d .call; count = length (bytesOf (messagesIn d)); buffer = sets buffer 0 (bytesOf (messagesIn d)) })
     (refusal 7 c buffer)
 
--- an event that was read: 5, 6 and 7
+-- an event that was read: 5, 6, 8 and 7
 unfoldable pub decided : Call → Event → List ℕ → Outcome
 decided c e buffer =
     cond (otherCall c e) (refusal 5 c buffer)
-    (cond (rowFor c e .taken) (carried c (rowFor c e) buffer) (refusal 6 c buffer))
+    (cond (rowFor c e .taken)
+    (cond (overTransmission c e) (refusal 8 c buffer) (carried c (rowFor c e) buffer))
+    (refusal 6 c buffer))
 
 abbrev pub whenRead : Read Event → Call → List ℕ → Outcome
 whenRead (taken e) c buffer = decided c e buffer
@@ -102,6 +135,7 @@ answerNumber Answer.BadBody = 4
 answerNumber Answer.OtherCall = 5
 answerNumber Answer.NoRow = 6
 answerNumber Answer.NoRoom = 7
+answerNumber Answer.OwnTransmission = 8
 
 abbrev pub asOutcome : Stepped → List ℕ → Outcome
 asOutcome r buffer = record { answer = answerNumber (r .answer); place = r .place; call = r .call; count = r .count; buffer = buffer }

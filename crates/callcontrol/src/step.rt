@@ -2,7 +2,7 @@
 ghost use mathlib.Core.Path.{_≡_};
 ghost use Prim.Native.Nat.{_<_};
 ghost use Rattle.callcontrol.specs.Draft.{asDraft};
-ghost use Rattle.callcontrol.specs.Step.{answerNumber, refusing, namedIn, differs, otherCall, carried, decided, stepOf, asOutcome, unreadAs, placeIn};
+ghost use Rattle.callcontrol.specs.Step.{answerNumber, refusing, namedIn, differs, otherCall, transmits, overTransmission, carried, decided, stepOf, asOutcome, unreadAs, placeIn};
 use crate::call::Call;
 use crate::draft::Drafted;
 use crate::rows::row_for;
@@ -31,6 +31,8 @@ pub enum Answer {
     NoRow,
     // 7: the messages are longer than the lent buffer.
     NoRoom,
+    // 8, after 6 and before 7: D-INFO over own transmission.
+    OwnTransmission,
 }
 
 // The answer as the paper's number.
@@ -47,6 +49,7 @@ pub fn answer_number(answer: Answer) -> u8
         Answer::OtherCall => 5,
         Answer::NoRow => 6,
         Answer::NoRoom => 7,
+        Answer::OwnTransmission => 8,
     }
 }
 
@@ -127,6 +130,28 @@ fn other_call(call: Call, event: Event) -> bool
     (id != call.id) & ((call.id != 0) | call.is_idle())
 }
 
+// Whether the set has the U-plane to transmit.
+fn transmits(call: Call) -> bool
+    ensures { λ r. ⌜ r ≡ transmits call ⌝ }
+{
+    (call.plane == 1) | (call.plane == 3)
+}
+
+// D-INFO while the set transmits: a change of service would clip the speaker's words.
+fn over_transmission(call: Call, event: Event) -> bool
+    ensures { λ r. ⌜ r ≡ overTransmission call event ⌝ }
+{
+    match event {
+        Event::DInfo {
+            id: _,
+            reset: _,
+            code: _,
+            mode: _,
+        } => transmits(call),
+        _ => false,
+    }
+}
+
 // The answer where no event was read.
 fn unread(read: EventRead) -> Answer
     ensures { λ r. ⌜ r ≡ unreadAs read ⌝ }
@@ -179,6 +204,9 @@ fn decide(call: Call, event: Event, buffer: &mut [u8]) -> Stepped
     let row = row_for(call, event);
     if row.orders == 0 {
         return refuse(Answer::NoRow, 0, call);
+    }
+    if over_transmission(call, event) {
+        return refuse(Answer::OwnTransmission, 0, call);
     }
     carry(call, settle(call, row), buffer)
 }

@@ -3,14 +3,13 @@ ghost use mathlib.Core.Path.{_≡_};
 ghost use Prim.Native.Nat.{ℕ, _+_, _-_, _<_, _≤_};
 ghost use lib.ListN.{length, take, drop};
 ghost use Rattle.records.specs.Bodies.{Stored};
-ghost use Rattle.callcontrol.specs.Step.{answerNumber};
 ghost use Rattle.calltrace.specs.Line.{lineMost, lineFor};
 ghost use Rattle.calltrace.specs.Block.{aheadIn, AheadFits, outcomeOf, PauseIn, Traced};
 use crate::line::LINE_MOST;
 use crate::line::Line;
 use crate::line::put_line;
 use callcontrol::call::Call;
-use callcontrol::step::Answer;
+use callcontrol::step::answer_number;
 use callcontrol::step::step;
 
 // What stands at a position.
@@ -64,22 +63,6 @@ fn ahead_at(s: &[u8], at: usize) -> Ahead
         return Ahead::Cut;
     }
     Ahead::Whole(size)
-}
-
-fn answer_number(answer: Answer) -> u8
-    ensures { λ r. ⌜ r ≡ answerNumber answer ⌝ }
-    ensures { λ r. ⌜ r < 10 ⌝ }
-{
-    match answer {
-        Answer::Taken => 0,
-        Answer::NotSound => 1,
-        Answer::BadLength => 2,
-        Answer::UnknownKind => 3,
-        Answer::BadBody => 4,
-        Answer::OtherCall => 5,
-        Answer::NoRow => 6,
-        Answer::NoRoom => 7,
-    }
 }
 
 // One record through the step, which is lent 64 bytes for messages, and its line.

@@ -16,7 +16,7 @@ use Rattle.callcontrol.specs.Draft.{Draft}
 use Rattle.callcontrol.specs.Call.{sound}
 use Rattle.callcontrol.specs.Rows.{rowFor}
 use Rattle.callcontrol.specs.Writing.{messagesIn, bytesOf}
-use Rattle.callcontrol.specs.Step.{Outcome, refusalAt, refusal, otherCall, carried, decided, whenRead, stepOf}
+use Rattle.callcontrol.specs.Step.{Outcome, refusalAt, refusal, otherCall, overTransmission, carried, decided, whenRead, stepOf}
 use Rattle.demands.specs.Runs.{Turn, outcome, takenBy, writtenBy}
 use Rattle.demands.specs.Demands.{wrongLength, noKind, badBody, ofEvent, applies, Answered, Refused, Placed, PlaceOnlyWithFour, Zero, Taken}
 use Rattle.demands.proofs.Reading.{Reads, bad-length, no-kind, bad-body, is, reads}
@@ -25,11 +25,12 @@ use Rattle.demands.proofs.Turns.{byTests, Accepted, Turned, passed, too
 -- ---- the lowest answer
 
 module _ (c : Call) (buffer : List ℕ) where
-  event-answered : (other row room : Bool) (d : Draft) → byTests other row room c d buffer .answer ≡ cond other 5 (cond (not row) 6 (cond (not room) 7 0))
-  event-answered true row room d = refl
-  event-answered false false room d = refl
-  event-answered false true false d = refl
-  event-answered false true true d = refl
+  event-answered : (other row over room : Bool) (d : Draft) → byTests other row over room c d buffer .answer ≡ cond other 5 (cond (not row) 6 (cond over 8 (cond (not room) 7 0)))
+  event-answered true row over room d = refl
+  event-answered false false over room d = refl
+  event-answered false true true room d = refl
+  event-answered false true false false d = refl
+  event-answered false true false true d = refl
 
   step-answered : (ok : Bool) (s : List ℕ) (r : Read Event) → Reads s r →
       cond ok (whenRead r c buffer) (refusal 1 c buffer) .answer
@@ -39,14 +40,15 @@ module _ (c : Call) (buffer : List ℕ) where
       (cond (badBody s) 4
       (cond (ofEvent (λ e. otherCall c e) r) 5
       (cond (ofEvent (λ e. not (rowFor c e .taken)) r) 6
-      (cond (ofEvent (λ e. not (leb (length (bytesOf (messagesIn (rowFor c e)))) (length buffer))) r) 7 0))))))
+      (cond (ofEvent (λ e. overTransmission c e) r) 8
+      (cond (ofEvent (λ e. not (leb (length (bytesOf (messagesIn (rowFor c e)))) (length buffer))) r) 7 0)))))))
   unfolding decided carried
   step-answered false s r v = refl
   step-answered true s r (bad-length l) = rw l
   step-answered true s r (no-kind l k) = rw (l, k)
   step-answered true s r (bad-body l k b) = rw (l, k, b)
   step-answered true s r (is {e} l k b f) =
-      rw (l, k, b) (event-answered (otherCall c e) (rowFor c e .taken) (leb (length (bytesOf (messagesIn (rowFor c e)))) (length buffer)) (rowFor c e))
+      rw (l, k, b) (event-answered (otherCall c e) (rowFor c e .taken) (overTransmission c e) (leb (length (bytesOf (messagesIn (rowFor c e)))) (length buffer)) (rowFor c e))
 
 pub answered : Answered
 unfolding stepOf applies
@@ -71,18 +73,19 @@ pub placed : Placed
 unfolding stepOf
 placed c bytes buffer n place ok reads = rw (ok, reads)
 
-event-placeless : (other row room : Bool) (c : Call) (d : Draft) (buffer : List ℕ) → byTests other row room c d buffer .place ≡ 0
-event-placeless true row room c d buffer = refl
-event-placeless false false room c d buffer = refl
-event-placeless false true false c d buffer = refl
-event-placeless false true true c d buffer = refl
+event-placeless : (other row over room : Bool) (c : Call) (d : Draft) (buffer : List ℕ) → byTests other row over room c d buffer .place ≡ 0
+event-placeless true row over room c d buffer = refl
+event-placeless false false over room c d buffer = refl
+event-placeless false true true room c d buffer = refl
+event-placeless false true false false c d buffer = refl
+event-placeless false true false true c d buffer = refl
 
 step-placeless : (ok : Bool) (s : List ℕ) (r : Read Event) → read events s ≡ r → (c : Call) (buffer : List ℕ)
     → (cond ok (whenRead r c buffer) (refusal 1 c buffer) .answer ≡ 4 → ⊥) → cond ok (whenRead r c buffer) (refusal 1 c buffer) .place ≡ 0
 unfolding decided carried
 step-placeless false s r h c buffer other = refl
 step-placeless true s (taken e) h c buffer other =
-    event-placeless (otherCall c e) (rowFor c e .taken) (leb (length (bytesOf (messagesIn (rowFor c e)))) (length buffer)) c (rowFor c e) buffer
+    event-placeless (otherCall c e) (rowFor c e .taken) (overTransmission c e) (leb (length (bytesOf (messagesIn (rowFor c e)))) (length buffer)) c (rowFor c e) buffer
 step-placeless true s (refused n place) h c buffer other = event-place-only-with-four s n place h other
 
 pub place-only-with-four : PlaceOnlyWithFour

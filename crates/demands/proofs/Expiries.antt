@@ -23,7 +23,7 @@ use Rattle.callcontrol.specs.Call.{freshCall, runs, T301, T302, T303, T306, T30
 use Rattle.callcontrol.specs.Rows
 use Rattle.callcontrol.specs.Rows.{rowFor}
 use Rattle.callcontrol.specs.Writing.{messagesIn, bytesOf}
-use Rattle.callcontrol.specs.Step.{Outcome, refusal, otherCall, carried, decided, stepOf}
+use Rattle.callcontrol.specs.Step.{Outcome, refusal, otherCall, overTransmission, carried, decided, stepOf}
 use Rattle.callcontrol.proofs.Verbs.{verbs}
 use Rattle.demands.specs.Runs.{Turn, outcome, next, run, takenBy}
 use Rattle.demands.specs.Clocks.{logIn, place, runsBy}
@@ -41,24 +41,25 @@ use Rattle.demands.proofs.Tracked.{timers-by-messages}
 
 -- ---- what a turn makes of an event that was read, in a reached record
 
-module _ (c : Call) (t : Turn) (e : Event) (k : Kept c) (reads : read events (t .event) ≡ taken e) (ours : otherCall c e ≡ false) where
+module _ (c : Call) (t : Turn) (e : Event) (k : Kept c) (reads : read events (t .event) ≡ taken e) (ours : otherCall c e ≡ false)
+    (silent : overTransmission c e ≡ false) where
   fits : Bool
   fits = leb (length (bytesOf (messagesIn (rowFor c e)))) (length (t .buffer))
 
-  by-tests : outcome c t ≡ byTests (otherCall c e) (rowFor c e .taken) fits c (rowFor c e) (t .buffer)
+  by-tests : outcome c t ≡ byTests (otherCall c e) (rowFor c e .taken) (overTransmission c e) fits c (rowFor c e) (t .buffer)
   unfolding outcome stepOf decided carried fits
   by-tests = rw (k .meets, reads)
 
   -- without a row it is refused with 6
   refused-6 : rowFor c e .taken ≡ false → outcome c t ≡ refusal 6 c (t .buffer)
-  refused-6 h = by-tests ∙ (λ i. byTests (ours i) (h i) fits c (rowFor c e) (t .buffer))
+  refused-6 h = by-tests ∙ (λ i. byTests (ours i) (h i) (overTransmission c e) fits c (rowFor c e) (t .buffer))
 
   -- with one it is taken, if 32 bytes are lent
   taken-32 : Clocked c → rowFor c e .taken ≡ true → 32 ≤ length (t .buffer) → outcome c t ≡ accepted (rowFor c e) (t .buffer)
   unfolding fits
   taken-32 v h room =
       let enough : fits ≡ true = le-leb (length (bytesOf (messagesIn (rowFor c e)))) (length (t .buffer)) (omega (arith, row-short c e k v h)) in
-      by-tests ∙ (λ i. byTests (ours i) (h i) (enough i) c (rowFor c e) (t .buffer))
+      by-tests ∙ (λ i. byTests (ours i) (h i) (silent i) (enough i) c (rowFor c e) (t .buffer))
 
   takes-32 : Clocked c → rowFor c e .taken ≡ true → 32 ≤ length (t .buffer) → takenBy c t ≡ some e
   unfolding takenBy
@@ -109,7 +110,7 @@ by-messages ts n = ap (λ (f : List Bool). getD f (place n) false) (timers-by-me
 pub late-expiry : LateExpiry
 late-expiry ts t n reads late =
     let c = run freshCall ts in
-    refused-6 c t (Expiry n) (always ts) reads (expiry-ours c n) (late-row c n (sym (by-messages ts n) ∙ late))
+    refused-6 c t (Expiry n) (always ts) reads (expiry-ours c n) refl (late-row c n (sym (by-messages ts n) ∙ late))
 
 -- ---- and a timer that runs has a row
 
@@ -192,7 +193,7 @@ due-row c n h =
 pub due-expiry : DueExpiry
 due-expiry ts t n reads runs-now room =
     let c = run freshCall ts in
-    takes-32 c t (Expiry n) (always ts) reads (expiry-ours c n) (reached ts)
+    takes-32 c t (Expiry n) (always ts) reads (expiry-ours c n) refl (reached ts)
     (due-row c n (rows-due (reached ts)) (is-timer n (read-fine (t .event) (Expiry n) reads)) (sym (by-messages ts n) ∙ runs-now)) room
 
 -- ---- RELEASE request, and then T308
@@ -231,8 +232,8 @@ pub release-leaves-fresh : ReleaseLeavesFresh
 unfolding run next outcome
 release-leaves-fresh ts t u asks lapses room room′ =
     let c = run freshCall ts in
-    let first : next c t ≡ left-by ReleaseRequest c = leaves-32 c t ReleaseRequest (always ts) asks (release-ours c) (reached ts) room _ refl in
+    let first : next c t ≡ left-by ReleaseRequest c = leaves-32 c t ReleaseRequest (always ts) asks (release-ours c) refl (reached ts) room _ refl in
     let kept : Kept (next c t) = step-keeps-sound c (t .event) (t .buffer) (always ts) in
     let then : next (next c t) u ≡ left-by (Expiry 308) (next c t)
-    = leaves-32 (next c t) u (Expiry 308) kept lapses (expiry-ours (next c t) 308) (turn-kept c t (reached ts)) room′ _ refl in
+    = leaves-32 (next c t) u (Expiry 308) kept lapses (expiry-ours (next c t) 308) refl (turn-kept c t (reached ts)) room′ _ refl in
     run-append freshCall ts (t ∷ u ∷ []) ∙ then ∙ ap (left-by (Expiry 308)) first ∙ lapsed (released (situated c (always ts)) (reached ts))

@@ -22,7 +22,7 @@ use Rattle.callcontrol.specs.declared.call.Call.{Call}
 use Rattle.callcontrol.specs.Call.{freshCall, sound, pathNumber, runs, isIdle, T301, T302, T310}
 use Rattle.callcontrol.specs.Rows.{rowFor}
 use Rattle.callcontrol.specs.Writing.{messagesIn, bytesOf}
-use Rattle.callcontrol.specs.Step.{refusal, refusalAt, stepOf, otherCall}
+use Rattle.callcontrol.specs.Step.{refusal, refusalAt, stepOf, otherCall, overTransmission}
 use Rattle.demands.specs.Runs.{Turn, outcome, next, run, takenBy, takenIn, writtenBy, writtenIn, every?, isUDisconnect, isURelease, told, ends}
 use Rattle.demands.specs.Examples.{turn, setupRequest, dConnect}
 use Rattle.demands.specs.Clocks.{logIn, runningBy, runsBy}
@@ -54,7 +54,7 @@ abbrev pub ofEvent : (Event → Bool) → Read Event → Bool
 ofEvent p (taken e) = p e
 ofEvent p (refused m place) = false
 
--- where each answer of the paper's table applies, each told without a look at those below it; 5, 6 and 7 speak of an event, so of bytes
+-- where each answer of the paper's table applies, each told without a look at those before it; 5, 6, 7 and 8 speak of an event, so of bytes
 -- that are one
 unfoldable pub applies : ℕ → Call → List ℕ → List ℕ → Bool
 applies n c bytes buffer =
@@ -64,18 +64,19 @@ applies n c bytes buffer =
     (cond (eqb n 4) (badBody bytes)
     (cond (eqb n 5) (ofEvent (λ e. otherCall c e) (read events bytes))
     (cond (eqb n 6) (ofEvent (λ e. not (rowFor c e .taken)) (read events bytes))
-    (cond (eqb n 7) (ofEvent (λ e. not (leb (length (bytesOf (messagesIn (rowFor c e)))) (length buffer))) (read events bytes)) false))))))
+    (cond (eqb n 7) (ofEvent (λ e. not (leb (length (bytesOf (messagesIn (rowFor c e)))) (length buffer))) (read events bytes))
+    (cond (eqb n 8) (ofEvent (λ e. overTransmission c e) (read events bytes)) false)))))))
 
 -- the first of some numbers that applies, 0 if none does
 abbrev pub first : (ℕ → Bool) → List ℕ → ℕ
 first p [] = 0
 first p (n ∷ ns) = cond (p n) n (first p ns)
 
--- every record, every byte string and every buffer gets the lowest number that applies, and 0 where none does
+-- every record, every byte string and every buffer gets the first number that applies, 8 after 6 and before 7, and 0 where none does
 abbrev pub Answered : Type 0
 Answered =
     (c : Call) (bytes buffer : List ℕ) →
-    stepOf c bytes buffer .answer ≡ first (λ n. applies n c bytes buffer) (1 ∷ 2 ∷ 3 ∷ 4 ∷ 5 ∷ 6 ∷ 7 ∷ [])
+    stepOf c bytes buffer .answer ≡ first (λ n. applies n c bytes buffer) (1 ∷ 2 ∷ 3 ∷ 4 ∷ 5 ∷ 6 ∷ 8 ∷ 7 ∷ [])
 
 -- a refusal counts 0 bytes, changes no byte and gives the record back
 abbrev pub Refused : Type 0

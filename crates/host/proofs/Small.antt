@@ -21,7 +21,7 @@ use Rattle.callcontrol.specs.declared.draft.Slot.{Slot}
 use Rattle.callcontrol.specs.Call.{sound}
 use Rattle.callcontrol.specs.Rows.{rowFor}
 use Rattle.callcontrol.specs.Writing.{held, messagesIn, bytesOf, countOf}
-use Rattle.callcontrol.specs.Step.{Outcome, refusalAt, otherCall, carried, decided, whenRead, stepOf}
+use Rattle.callcontrol.specs.Step.{Outcome, refusalAt, otherCall, overTransmission, carried, decided, whenRead, stepOf}
 use Rattle.callcontrol.proofs.Laying.{size-one, size-bound, size-messages}
 use Rattle.host.specs.Entries.{wroteWord}
 use Rattle.demands.proofs.Facts.{left, right}
@@ -63,7 +63,8 @@ unfolding decided carried
 read-few (taken e) c b =
     either (otherCall c e) none
     (either (rowFor c e .taken)
-    (either (leb (length (bytesOf (messagesIn (rowFor c e)))) (length b)) (record { few = messages-small (rowFor c e) }) none)
+    (either (overTransmission c e) none
+    (either (leb (length (bytesOf (messagesIn (rowFor c e)))) (length b)) (record { few = messages-small (rowFor c e) }) none))
     none)
 read-few (refused n place) c b = none
 

@@ -37,6 +37,8 @@ pub enum Refusal {
     NoRow,
     /// 7: messages longer than the lent buffer.
     Buffer,
+    /// 8, after 6 and before 7: D-INFO over own transmission.
+    OwnTransmission,
 }
 
 impl Refusal {
@@ -50,6 +52,7 @@ impl Refusal {
             Refusal::Identifier => 5,
             Refusal::NoRow => 6,
             Refusal::Buffer => 7,
+            Refusal::OwnTransmission => 8,
         }
     }
 

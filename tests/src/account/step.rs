@@ -9,7 +9,8 @@ impl Call {
     /// A refusal leaves the call and `out` as they are.
     #[inline]
     pub fn step(&mut self, event: &[u8], out: &mut [u8]) -> Result<usize, Refusal> {
-        // The checks stand in the order of their answers: the lowest that applies is given.
+        // The checks stand in the order of the answers, in which 8 comes after 6 and before 7: the
+        // first that applies is given.
         if !self.sound() {
             return Err(Refusal::NotSound);
         }
@@ -21,9 +22,17 @@ impl Call {
         if !turn.take(event) {
             return Err(Refusal::NoRow);
         }
+        if matches!(event, Event::DInfo { .. }) && self.transmits() {
+            return Err(Refusal::OwnTransmission);
+        }
         let count = write(&turn.orders, out)?;
         *self = turn.call;
         Ok(count)
+    }
+
+    /// Whether the set has the U-plane to transmit: plane 1 or 3.
+    fn transmits(&self) -> bool {
+        matches!(self.plane, Plane::Transmit | Plane::TransmitAndReceive)
     }
 }
 

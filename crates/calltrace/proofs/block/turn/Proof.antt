@@ -16,7 +16,7 @@ use Rattle.callcontrol.specs.Draft.{Draft}
 use Rattle.callcontrol.specs.Call.{sound}
 use Rattle.callcontrol.specs.Rows.{rowFor}
 use Rattle.callcontrol.specs.Writing.{messagesIn, bytesOf}
-use Rattle.callcontrol.specs.Step.{Outcome, otherCall, carried, decided, whenRead, stepOf}
+use Rattle.callcontrol.specs.Step.{Outcome, otherCall, overTransmission, carried, decided, whenRead, stepOf}
 use Rattle.calltrace.proofs.block.turn.Statement.{statement}
 use Rattle.calltrace.proofs.block.turn.Tie as tie
 
@@ -39,7 +39,8 @@ carried-count c d buffer = within (length (bytesOf (messagesIn d))) (length buff
 decided-count : (c : Call) (e : Event) (buffer : List ℕ) → Counts buffer (decided c e buffer)
 unfolding decided
 decided-count c e buffer =
-    either (Counts buffer) (otherCall c e) zero-le (either (Counts buffer) (rowFor c e .taken) (carried-count c (rowFor c e) buffer) zero-le)
+    either (Counts buffer) (otherCall c e) zero-le
+    (either (Counts buffer) (rowFor c e .taken) (either (Counts buffer) (overTransmission c e) zero-le (carried-count c (rowFor c e) buffer)) zero-le)
 
 read-count : (r : Read Event) (c : Call) (buffer : List ℕ) → Counts buffer (whenRead r c buffer)
 read-count (taken e) c buffer = decided-count c e buffer
