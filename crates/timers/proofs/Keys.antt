@@ -29,7 +29,7 @@ greatest-cases b m x P f g h =
 
 -- ---- the greatest, by pairs or one after the other
 
-greater-is : (a b : ℕ) → greater a b ≡ max a b
+pub greater-is : (a b : ℕ) → greater a b ≡ max a b
 unfolding greater
 greater-is a b =
     decide (ltb a b) (λ q. let less = ltb-true a b q in rw q (omega arith)) (λ q. let least = ltb-false a b q in rw q (omega arith))

@@ -5,6 +5,7 @@ pub mod Determined
 pub mod Handing
 pub mod Holding
 pub mod Keys
+pub mod Pairs
 pub mod Places
 pub mod Tests
 pub mod Witness

@@ -1,5 +1,5 @@
 -- Which timers are due at a reading, and the order in which they are handed out: each timer has a key, and the greatest key goes first.
-use Prim.Native.Nat.{ℕ, zero, suc, _+_, _*_, _-_, _%_}
+use Prim.Native.Nat.{ℕ, zero, suc, _+_, _*_, _-_, _%_, _≤_}
 use mathlib.Core.Bool.{Bool, true, false, cond, not, _&&_, _||_}
 use mathlib.Core.List.{List, [], _∷_}
 use lib.Dec.{eqb, ltb, leb}
@@ -37,6 +37,19 @@ under bound key = cond (ltb key bound) key 0
 
 unfoldable pub greater : ℕ → ℕ → ℕ
 greater a b = cond (ltb a b) b a
+
+unfoldable pub lesser : ℕ → ℕ → ℕ
+lesser a b = cond (ltb a b) a b
+
+-- the keys with the greater of each pair first
+unfoldable pub paired : List ℕ → List ℕ
+paired keys =
+    greater (getD keys 0 0) (getD keys 1 0) ∷ lesser (getD keys 0 0) (getD keys 1 0) ∷ greater (getD keys 2 0) (getD keys 3 0)
+    ∷ lesser (getD keys 2 0) (getD keys 3 0) ∷ greater (getD keys 4 0) (getD keys 5 0) ∷ lesser (getD keys 4 0) (getD keys 5 0)
+    ∷ getD keys 6 0 ∷ []
+
+abbrev pub Paired : List ℕ → Type 0
+Paired keys = (getD keys 1 0 ≤ getD keys 0 0) × (getD keys 3 0 ≤ getD keys 2 0) × (getD keys 5 0 ≤ getD keys 4 0)
 
 -- the greatest key below a bound, 0 where there is none
 unfoldable pub below : ℕ → List ℕ → ℕ

@@ -3,7 +3,7 @@ ghost use mathlib.Core.Path.{_≡_};
 ghost use mathlib.Core.List.{_++_};
 ghost use Prim.Native.Nat.{_≤_, _<_};
 ghost use lib.ListN.{length, drop};
-ghost use Rattle.timers.specs.Due.{keyOf, keysOf, oneIf, countOf, under, greater, below, numberOf, handed, stays, staying};
+ghost use Rattle.timers.specs.Due.{keyOf, keysOf, oneIf, countOf, under, greater, lesser, paired, Paired, below, numberOf, handed, stays, staying};
 use crate::wrap::forward;
 use crate::wrap::is_back;
 
@@ -71,14 +71,47 @@ fn greater(a: u64, b: u64) -> u64
     if a < b { b } else { a }
 }
 
-// The greatest key below a bound, 0 where there is none. By pairs, since a machine compares pairs side by side.
-fn below(bound: u64, keys: [u64; 7]) -> u64
-    ensures { λ r. ⌜ r ≡ below bound keys ⌝ }
+fn lesser(a: u64, b: u64) -> u64
+    ensures { λ r. ⌜ r ≡ lesser a b ⌝ }
 {
-    let a = greater(under(bound, keys[0]), under(bound, keys[1]));
-    let b = greater(under(bound, keys[2]), under(bound, keys[3]));
-    let c = greater(under(bound, keys[4]), under(bound, keys[5]));
-    greater(greater(a, b), greater(c, under(bound, keys[6])))
+    if a < b { a } else { b }
+}
+
+// The keys with the greater of each pair first, so that the lesser is looked at only where the greater is taken.
+fn paired(keys: [u64; 7]) -> [u64; 7]
+    ensures { λ r. ⌜ r ≡ paired keys ⌝ }
+{
+    [
+        greater(keys[0], keys[1]),
+        lesser(keys[0], keys[1]),
+        greater(keys[2], keys[3]),
+        lesser(keys[2], keys[3]),
+        greater(keys[4], keys[5]),
+        lesser(keys[4], keys[5]),
+        keys[6],
+    ]
+}
+
+// The greater key of a pair below a bound, 0 where there is none.
+fn of_pair(bound: u64, high: u64, low: u64) -> u64
+    requires { ⌜ low ≤ high ⌝ }
+    ensures { λ r. ⌜ r ≡ greater (under bound high) (under bound low) ⌝ }
+{
+    if high < bound {
+        return high;
+    }
+    under(bound, low)
+}
+
+// The greatest key below a bound, 0 where there is none.
+fn below(bound: u64, pairs: [u64; 7]) -> u64
+    requires { ⌜ Paired pairs ⌝ }
+    ensures { λ r. ⌜ r ≡ below bound pairs ⌝ }
+{
+    let a = of_pair(bound, pairs[0], pairs[1]);
+    let b = of_pair(bound, pairs[2], pairs[3]);
+    let c = of_pair(bound, pairs[4], pairs[5]);
+    greater(greater(a, b), greater(c, under(bound, pairs[6])))
 }
 
 // The number of the timer that a key is of.
@@ -97,20 +130,28 @@ fn number_of(key: u64) -> u16
     }
 }
 
-// Hands out: the numbers of the count greatest keys, the greatest first; later elements of the list stay.
-pub fn hand_out(keys: [u64; 7], count: usize, due: &mut [u16])
-    requires { ⌜ count ≤ length (now due) ⌝ }
-    ensures { λ _. ⌜ now (due .exit) ≡ handed count 34359738368 keys ++ drop count (now (due .entry)) ⌝ }
+// The numbers of the count greatest keys, the greatest first; later elements of the list stay.
+fn give_out(pairs: [u64; 7], count: usize, due: &mut [u16])
+    requires { ⌜ Paired pairs × (count ≤ length (now due)) ⌝ }
+    ensures { λ _. ⌜ now (due .exit) ≡ handed count 34359738368 pairs ++ drop count (now (due .entry)) ⌝ }
 {
     // 2^35, above every key.
     let mut bound: u64 = 34359738368;
     let mut i: usize = 0;
     while i < count {
-        let key = below(bound, keys);
+        let key = below(bound, pairs);
         due[i] = number_of(key);
         bound = key;
         i += 1;
     }
+}
+
+// Hands out.
+pub fn hand_out(keys: [u64; 7], count: usize, due: &mut [u16])
+    requires { ⌜ count ≤ length (now due) ⌝ }
+    ensures { λ _. ⌜ now (due .exit) ≡ handed count 34359738368 keys ++ drop count (now (due .entry)) ⌝ }
+{
+    give_out(paired(keys), count, due);
 }
 
 fn stays(running: bool, key: u64) -> bool
