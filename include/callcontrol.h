@@ -8,9 +8,10 @@
  * any number of calls can be run side by side. Bytes that may be written must not overlap other
  * bytes handed to the same function. Pointers must not be null, also where the length is 0.
  *
- * Every function returns answer * 2^24 + place * 2^16 + count of bytes written. With answer 4 of a
- * reader the place says what is wrong: the offset of the first bad field from the first byte of the
- * record, or 2 where the size of the body is wrong. With every other answer it is 0.
+ * Every function but callcontrol_pieces_next returns answer * 2^24 + place * 2^16 + count of bytes
+ * written. With answer 4 of a reader the place says what is wrong: the offset of the first bad field
+ * from the first byte of the record, or 2 where the size of the body is wrong. With every other answer
+ * it is 0.
  */
 #ifndef CALLCONTROL_H
 #define CALLCONTROL_H
@@ -250,7 +251,7 @@ uint32_t callcontrol_copy_event(const uint8_t *bytes, size_t len, uint8_t *out, 
 /* Reads one message record and writes it back to out: answer 0 with its length, or 2, 3, 4 or 7. */
 uint32_t callcontrol_copy_message(const uint8_t *bytes, size_t len, uint8_t *out, size_t out_len);
 
-/* The answer in a result, one of enum callcontrol_answer. */
+/* The answer in a result of any function here. */
 static inline unsigned int callcontrol_answer_of(uint32_t result)
 {
     return (unsigned int)(result >> 24);
@@ -262,7 +263,7 @@ static inline unsigned int callcontrol_place_of(uint32_t result)
     return (unsigned int)(result >> 16 & 0xFFu);
 }
 
-/* The count of bytes written in a result. */
+/* The count in a result: bytes written, and for callcontrol_bank_advance the timers due. */
 static inline size_t callcontrol_count_of(uint32_t result)
 {
     return (size_t)(result & 0xFFFFu);
@@ -285,7 +286,7 @@ enum callcontrol_where {
 
 /*
  * Makes a reader fresh, or resets it: nothing is carried and it is not stopped. Counts its 2
- * bytes; answer 1 in the result's highest byte and nothing written if reader_len is not 2.
+ * bytes; answer 1 and nothing written if reader_len is not 2.
  */
 uint32_t callcontrol_pieces_fresh(uint8_t *reader, size_t reader_len);
 
@@ -300,12 +301,6 @@ uint32_t callcontrol_pieces_fresh(uint8_t *reader, size_t reader_len);
 uint32_t callcontrol_pieces_next(uint8_t *reader, size_t reader_len,
                                  uint8_t *carry, size_t carry_len,
                                  const uint8_t *piece, size_t piece_len);
-
-/* The answer in a result of callcontrol_pieces_next. */
-static inline unsigned int callcontrol_pieces_answer_of(uint32_t result)
-{
-    return (unsigned int)(result >> 24);
-}
 
 /* Where the record is, one of enum callcontrol_where. */
 static inline unsigned int callcontrol_where_of(uint32_t result)
@@ -379,18 +374,6 @@ uint32_t callcontrol_bank_start(uint8_t *bank, size_t bank_len,
  */
 uint32_t callcontrol_bank_advance(uint8_t *bank, size_t bank_len, uint32_t reading,
                                   uint16_t *due, size_t due_len);
-
-/* The answer in a result of a bank's function. */
-static inline unsigned int callcontrol_bank_answer_of(uint32_t result)
-{
-    return (unsigned int)(result >> 24);
-}
-
-/* The count in a result of a bank's function: of callcontrol_bank_advance, the timers due. */
-static inline size_t callcontrol_bank_count_of(uint32_t result)
-{
-    return (size_t)(result & 0xFFFFu);
-}
 
 #ifdef __cplusplus
 }

@@ -54,7 +54,7 @@ static unsigned int take_piece(struct line *line, const uint8_t *piece, size_t l
         uint32_t result = callcontrol_pieces_next(line->reader, sizeof line->reader,
                                                   line->carry, sizeof line->carry, piece, len);
         if (callcontrol_where_of(result) == CALLCONTROL_NOWHERE)
-            return callcontrol_pieces_answer_of(result);
+            return callcontrol_answer_of(result);
         take(line->call,
              callcontrol_where_of(result) == CALLCONTROL_IN_CARRY ? line->carry : piece,
              callcontrol_size_of(result));

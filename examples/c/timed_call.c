@@ -59,7 +59,7 @@ static unsigned int two_bytes(const uint8_t *bytes)
 
 static void must_be_taken(uint32_t result)
 {
-    if (callcontrol_bank_answer_of(result) != CALLCONTROL_TAKEN) {
+    if (callcontrol_answer_of(result) != CALLCONTROL_TAKEN) {
         fprintf(stderr, "refused: %08lX\n", (unsigned long)result);
         exit(EXIT_FAILURE);
     }
@@ -104,7 +104,7 @@ static void read_counter(void)
                                                CALLCONTROL_TIMERS);
 
     must_be_taken(result);
-    for (size_t at = 0; at < callcontrol_bank_count_of(result); at++) {
+    for (size_t at = 0; at < callcontrol_count_of(result); at++) {
         const uint8_t expiry[] = {6, 0, 0x01, 0x04, (uint8_t)(due[at] & 0xFF),
                                   (uint8_t)(due[at] >> 8)};
         char name[24];

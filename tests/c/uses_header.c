@@ -38,13 +38,13 @@ static int reads_pieces(void)
     if (callcontrol_where_of(result) != CALLCONTROL_IN_PIECE || callcontrol_used_of(result) != 4)
         return 14;
     result = callcontrol_pieces_next(reader, sizeof reader, carry, sizeof carry, line + 8, 2);
-    if (callcontrol_pieces_answer_of(result) != CALLCONTROL_LENGTH_IMPOSSIBLE)
+    if (callcontrol_answer_of(result) != CALLCONTROL_LENGTH_IMPOSSIBLE)
         return 15;
     result = callcontrol_pieces_next(reader, sizeof reader, carry, sizeof carry, line, 4);
-    if (callcontrol_pieces_answer_of(result) != CALLCONTROL_READER_STOPPED)
+    if (callcontrol_answer_of(result) != CALLCONTROL_READER_STOPPED)
         return 16;
     result = callcontrol_pieces_next(reader, sizeof reader, carry, 63, line, 4);
-    return callcontrol_pieces_answer_of(result) == CALLCONTROL_CARRY_TOO_SHORT ? 0 : 17;
+    return callcontrol_answer_of(result) == CALLCONTROL_CARRY_TOO_SHORT ? 0 : 17;
 }
 
 int main(void)
