@@ -95,12 +95,12 @@ fn run_account_struct(tape: &Tape) -> Sum {
 
 pub fn main() {
     let tape = tape();
-    let mut answers = [0u32; 8];
+    let mut answers = [0u32; 9];
     let mut record = Call::FRESH.pack();
     for event in tape.events() {
         answers[(boundary::step(&mut record, event, &mut [0; OUT_LEN]) >> 24) as usize] += 1;
     }
-    println!("tape: {EVENTS} events from fresh, by answer 0..7: {answers:?}");
+    println!("tape: {EVENTS} events from fresh, by answer 0..8: {answers:?}");
 
     type Run = fn(&Tape) -> Sum;
     let runs: [(&str, Run); 3] = [
