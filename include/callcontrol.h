@@ -26,11 +26,16 @@ extern "C" {
 /* ---- Sizes and limits ---------------------------------------------------------------------- */
 
 #define CALLCONTROL_RECORD_SIZE 21u         /* bytes of a call record */
+#define CALLCONTROL_PLACES 8u               /* calls of a console */
+#define CALLCONTROL_TABLE_SIZE 168u         /* bytes of a console's table: eight records */
 #define CALLCONTROL_HEAD_SIZE 4u            /* length u16 and kind u16 before the body */
 #define CALLCONTROL_EVENT_MAX 11u           /* bytes of the longest event */
 #define CALLCONTROL_MESSAGE_MAX 11u         /* bytes of the longest message */
 #define CALLCONTROL_RUN_MAX 32u             /* the most one step writes, of a call that began fresh and was only stepped */
 #define CALLCONTROL_STEP_MAX 52u            /* the most one step writes, from any sound record */
+#define CALLCONTROL_CONSOLE_PLACE_MAX 37u   /* the most an event for one place writes ... */
+#define CALLCONTROL_CONSOLE_BREAK_MAX 128u  /* ... and BREAK ... */
+#define CALLCONTROL_CONSOLE_MAX 184u        /* ... and RESUME, on a table reached from fresh */
 #define CALLCONTROL_IDENTIFIER_MAX 16383u   /* i */
 #define CALLCONTROL_ADDRESS_MAX 16777215u   /* a; 0 is unknown */
 #define CALLCONTROL_T310_CODE_MAX 15u       /* o */
@@ -60,7 +65,13 @@ enum callcontrol_answer {
     CALLCONTROL_OTHER_CALL = 5,   /* a network event whose identifier is not the held one */
     CALLCONTROL_NO_ROW = 6,       /* nothing is foreseen for this event in this state */
     CALLCONTROL_NO_ROOM = 7,      /* the messages are longer than the lent buffer */
-    CALLCONTROL_OWN_TRANSMISSION = 8 /* D-INFO in plane 1 or 3; after 6 and before 7 */
+    CALLCONTROL_OWN_TRANSMISSION = 8, /* D-INFO in plane 1 or 3; after 6 and before 7 */
+
+    /* Of a console alone, between 4 and 5. */
+    CALLCONTROL_PLACE_OVER = 40,   /* the place that is named is over 7 */
+    CALLCONTROL_ID_HELD = 41,      /* D-SETUP with an identifier that a place holds already */
+    CALLCONTROL_ID_AWAITED = 42,   /* SETUP request while a place outside IDLE has no identifier */
+    CALLCONTROL_NO_IDLE_PLACE = 43 /* eight calls are there already */
 };
 
 /* Of callcontrol_pieces_next: 0 and 1 as above, and these, in the order 22, 21, 20. */
@@ -209,6 +220,7 @@ enum callcontrol_message_kind {
     CALLCONTROL_START = 0x0602,     /* n o: o is 0 but for T310, whose 0 no step writes */
     CALLCONTROL_CONFIGURE = 0x0603, /* p */
     CALLCONTROL_CANCEL = 0x0604,
+    CALLCONTROL_PLACE = 0x0605, /* y, 0 to 7: the messages behind it are this place's */
 
     CALLCONTROL_SETUP_INDICATION = 0x0701, /* i a d */
     CALLCONTROL_SETUP_CONFIRM = 0x0702,    /* i g */
@@ -232,12 +244,32 @@ uint32_t callcontrol_fresh(uint8_t *record, size_t record_len);
 /*
  * Takes one event: rewrites the record, writes the messages it orders to the front of out, one
  * after another, and counts their bytes; later bytes of out stay as they are. A refusal (answers
- * 1 to 7) leaves record and out byte for byte. CALLCONTROL_RUN_MAX bytes are enough for a record that
+ * 1 to 8) leaves record and out byte for byte. CALLCONTROL_RUN_MAX bytes are enough for a record that
  * callcontrol_fresh wrote and only this function changed since, CALLCONTROL_STEP_MAX for any sound one.
  */
 uint32_t callcontrol_step(uint8_t *record, size_t record_len,
                           const uint8_t *event, size_t event_len,
                           uint8_t *out, size_t out_len);
+
+/*
+ * Writes eight fresh records and counts 168; answer 1 and nothing written if table_len is not 168.
+ */
+uint32_t callcontrol_console_fresh(uint8_t *table, size_t table_len);
+
+/*
+ * Takes one event for a console of eight calls. The table is eight records one after the other.
+ * SETUP response, RELEASE, TX and MODIFY request, the REPORTs and expiry are for the place that is
+ * named, 0 to 7; any other event finds its place itself, and place is not looked at. What a place
+ * orders follows a record CALLCONTROL_PLACE with its number, places rising; a place that orders
+ * nothing has none. A refusal leaves table and out byte for byte. BREAK and RESUME reach every
+ * place that would take them, or, where out is too short for all, none: lend
+ * CALLCONTROL_CONSOLE_MAX bytes, and 7 never comes back on a table that callcontrol_console_fresh
+ * wrote and only this function changed since. Answer 1: the bytes are not eight records, one is not
+ * sound, two hold one identifier above 0, or two outside IDLE hold none; 5: no place fits.
+ */
+uint32_t callcontrol_console_step(uint8_t *table, size_t table_len, uint8_t place,
+                                  const uint8_t *event, size_t event_len,
+                                  uint8_t *out, size_t out_len);
 
 /* Reads one event record: answer 0, 2, 3 or 4 with its place, count 0. */
 uint32_t callcontrol_check_event(const uint8_t *bytes, size_t len);
@@ -257,7 +289,10 @@ static inline unsigned int callcontrol_answer_of(uint32_t result)
     return (unsigned int)(result >> 24);
 }
 
-/* The place in a result: where an answer 4 found the record wrong, 0 with every other answer. */
+/*
+ * The place in a result: where an answer 4 found the record wrong, 0 with every other answer. It is
+ * an offset in the record, never a place of a console.
+ */
 static inline unsigned int callcontrol_place_of(uint32_t result)
 {
     return (unsigned int)(result >> 16 & 0xFFu);

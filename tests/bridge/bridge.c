@@ -80,6 +80,11 @@ static uint32_t call(unsigned function, uint32_t number, uint8_t *const at[], co
     case 11:
         return callcontrol_bank_advance(at[RECORD], len[RECORD], number,
                                         (uint16_t *)(void *)at[OUT], len[OUT] / 2);
+    case 12:
+        return callcontrol_console_fresh(at[RECORD], len[RECORD]);
+    case 13:
+        return callcontrol_console_step(at[RECORD], len[RECORD], (uint8_t)number, at[INPUT],
+                                        len[INPUT], at[OUT], len[OUT]);
     }
     fail("no such function");
     return 0;

@@ -170,7 +170,7 @@ pub fn message(random: &mut Random) -> Message {
     use crate::account::Cause;
     let i = identifier(random);
     let i_or_zero = if random.one_in(4) { 0 } else { i };
-    match random.below(21) {
+    match random.below(22) {
         0 => Message::USetup { a: known_address(random), d: mode(random), q: random.flip() },
         1 => Message::UConnect { i },
         2 => Message::UDisconnect { i: i_or_zero, c: random.pick(Cause::ALL) },
@@ -194,6 +194,7 @@ pub fn message(random: &mut Random) -> Message {
         17 => Message::ReleaseIndication { c: random.pick(Cause::ALL) },
         18 => Message::ReleaseConfirm,
         19 => Message::TxIndication { x: random.below(9) as u8 },
+        20 => Message::Place { place: random.below(8) as u8 },
         _ => Message::ModifyIndication { d: mode(random) },
     }
 }

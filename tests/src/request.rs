@@ -22,6 +22,9 @@ pub enum Function {
     BankStop = 9,
     BankStart = 10,
     BankAdvance = 11,
+    // Table as the record, beside the slices the place.
+    ConsoleFresh = 12,
+    ConsoleStep = 13,
 }
 
 impl Function {
@@ -38,6 +41,8 @@ impl Function {
         Function::BankStop,
         Function::BankStart,
         Function::BankAdvance,
+        Function::ConsoleFresh,
+        Function::ConsoleStep,
     ];
 
     /// Splits a result of this function into answer and what is counted.

@@ -1,10 +1,12 @@
 //! The events that the library is measured on.
 
-use crate::account::Call;
+use crate::account::console::{Console, PLACES};
+use crate::account::{Call, Event};
 use crate::generate::{damaged_event, event, likely_event, Bytes, Random};
 
 pub const EVENTS: usize = 16_384;
 pub const OUT_LEN: usize = 64;
+pub const CONSOLE_OUT_LEN: usize = 256;
 
 /// Event records one after another, as they would come from a queue.
 pub struct Tape {
@@ -44,4 +46,47 @@ pub fn tape() -> Tape {
         tape.ends.push(tape.bytes.len());
     }
     tape
+}
+
+/// Events for a console, each with the place handed in beside it.
+pub struct ConsoleTape {
+    events: Vec<(u8, Bytes)>,
+}
+
+impl ConsoleTape {
+    pub fn events(&self) -> impl Iterator<Item = (u8, &[u8])> {
+        self.events.iter().map(|(place, event)| (*place, event.as_slice()))
+    }
+}
+
+/// Up to eight calls at once from fresh, broken and restored together; about one event in ten is
+/// none of theirs, or damaged.
+pub fn console_tape() -> ConsoleTape {
+    let mut random = Random::new(0x7A9E_C045);
+    let mut events = Vec::new();
+    let mut console = Console::FRESH;
+    for _ in 0..EVENTS {
+        let busy: Vec<usize> = (0..PLACES).filter(|&at| console.calls[at] != Call::FRESH).collect();
+        let idle = Call::FRESH;
+        let (place, call) = match busy[..] {
+            [] => (0, idle),
+            _ if random.one_in(10) => (0, idle),
+            _ => {
+                let place = random.pick(&busy);
+                (place, console.calls[place])
+            }
+        };
+        let bytes = match random.below(40) {
+            0 => {
+                let event = event(&mut random, call.identifier);
+                damaged_event(&mut random, event)
+            }
+            1 | 2 => Bytes::of_event(event(&mut random, call.identifier)),
+            3 => Bytes::of_event(random.pick(&[Event::Break, Event::Resume])),
+            _ => Bytes::of_event(likely_event(&mut random, &call, 20)),
+        };
+        let _ = console.step(place as u8, bytes.as_slice(), &mut [0; CONSOLE_OUT_LEN]);
+        events.push((place as u8, bytes));
+    }
+    ConsoleTape { events }
 }

@@ -35,6 +35,8 @@ enum Letter {
     C,
     P,
     X,
+    /// The place of a console, 0..7.
+    Place,
 }
 
 use Letter::*;
@@ -68,6 +70,7 @@ impl Letter {
             }
             C | P => (1..=4).contains(&value),
             X => value <= 8,
+            Place => value <= 7,
         }
     }
 
@@ -131,7 +134,7 @@ const EVENTS: &[(u16, &[Letter])] = &[
 const MESSAGES: &[(u16, &[Letter])] = &[
     (0x0501, &[A, Bit, Bit]), (0x0502, &[I]), (0x0503, &[I0, C]), (0x0504, &[I0]),
     (0x0505, &[I, Bit]), (0x0506, &[I]), (0x0507, &[I]), (0x0508, &[I, A0, Bit]),
-    (0x0601, &[N]), (0x0602, &[NO]), (0x0603, &[P]), (0x0604, &[]),
+    (0x0601, &[N]), (0x0602, &[NO]), (0x0603, &[P]), (0x0604, &[]), (0x0605, &[Place]),
     (0x0701, &[I, A0, Bit]), (0x0702, &[I, G]), (0x0703, &[]), (0x0704, &[]), (0x0705, &[G]),
     (0x0706, &[C]), (0x0707, &[]), (0x0708, &[X]), (0x0709, &[Bit]),
 ];
@@ -269,7 +272,7 @@ fn every_combination_of_edge_values_is_read_exactly_when_each_is_in_range() {
                 .map(|letter| match letter {
                     Bit | G | C | P => (0..=5).chain([255]).collect(),
                     O | O16 => vec![0, 1, 3, 14, 15, 16, 17, 255],
-                    X => (0..=10).chain([255]).collect(),
+                    X | Place => (0..=10).chain([255]).collect(),
                     _ => letter.edges(),
                 })
                 .collect();

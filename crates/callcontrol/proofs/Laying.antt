@@ -15,6 +15,7 @@ use Rattle.records.specs.Tables.{flat}
 use Rattle.records.specs.Messages.{messages, messageBytes, messageSize}
 use Rattle.records.proofs.Laws.{sets-append, length-flatBytes}
 use Rattle.callcontrol.specs.Draft.{Draft}
+use Rattle.callcontrol.specs.declared.draft.Slot.{Slot}
 use Rattle.callcontrol.specs.Call.{T301, T302, T303, T306, T308, T310, T311}
 use Rattle.callcontrol.specs.Writing.{when, held, byNumber, starting, messagesIn, bytesOf, layAll, Laid, countOf}
 
@@ -95,6 +96,7 @@ size-bound (Message.Stop n) = lit≤ tt
 size-bound (Message.Start n o) = lit≤ tt
 size-bound (Message.Configure p) = lit≤ tt
 size-bound Message.Cancel = lit≤ tt
+size-bound (Message.Place at) = lit≤ tt
 size-bound (Message.SetupIndication i a d) = lit≤ tt
 size-bound (Message.SetupConfirm i g) = lit≤ tt
 size-bound Message.Proceed = lit≤ tt
@@ -118,6 +120,28 @@ size-messages d =
     simp size-append
     (omega
     (arith, cancel, plane, size-byNumber Message.Stop (d .stops) 6 (λ k. refl), size-byNumber (starting (d .call .code)) (d .starts) 7 (λ k. refl)))
+
+-- at most seven STOPs and seven STARTs, CANCEL, a PDU, CONFIGURE and a primitive
+
+at-most : (b : Bool) (n : ℕ) → cond b n 0 ≤ n
+at-most true n = omega arith
+at-most false n = omega arith
+
+seven : (flags : List Bool) → countOf flags ≤ 7
+unfolding countOf
+seven flags =
+    let one : (k : ℕ) → cond (getD flags k false) 1 0 ≤ 1 = λ k. at-most (getD flags k false) 1 in
+    omega (arith, one 0, one 1, one 2, one 3, one 4, one 5, one 6)
+
+held-small : (slot : Slot) → length (bytesOf (held slot)) ≤ 11
+unfolding bytesOf
+held-small Slot.Empty = lit≤ tt
+held-small (Slot.Holds m) = omega (arith, size-one m, size-bound m)
+
+pub messages-small : (d : Draft) → length (bytesOf (messagesIn d)) ≤ 122
+messages-small d =
+    omega
+    (arith, size-messages d, seven (d .stops), seven (d .starts), held-small (d .pdu), held-small (d .user), at-most (d .cancel) 4, at-most (not (eqb (d .configure) 0)) 5)
 
 -- where no timer is flagged, there is no order
 quiet : (m n o p q r s : Message) (a b c d e f g : Bool)

@@ -2,7 +2,7 @@
 ghost use mathlib.Core.Path.{_≡_};
 ghost use Prim.Native.Nat.{_<_};
 ghost use Rattle.callcontrol.specs.Draft.{asDraft};
-ghost use Rattle.callcontrol.specs.Step.{answerNumber, refusing, namedIn, differs, otherCall, transmits, overTransmission, carried, decided, stepOf, asOutcome, unreadAs, placeIn};
+ghost use Rattle.callcontrol.specs.Step.{answerNumber, refusing, namedIn, differs, otherCall, transmits, overTransmission, carried, decided, stepOf, asOutcome, unreadAs, placeIn, roomFor};
 use crate::call::Call;
 use crate::draft::Drafted;
 use crate::rows::row_for;
@@ -79,6 +79,12 @@ pub enum Named {
     NoCall,
 }
 
+// The room that an event's messages take, where there is a row for it.
+pub enum Room {
+    Bytes(usize),
+    NoRow,
+}
+
 // The identifier of a network event but D-SETUP.
 fn named_in(event: Event) -> Named
     ensures { λ r. ⌜ r ≡ namedIn event ⌝ }
@@ -153,7 +159,7 @@ fn over_transmission(call: Call, event: Event) -> bool
 }
 
 // The answer where no event was read.
-fn unread(read: EventRead) -> Answer
+pub fn unread(read: EventRead) -> Answer
     ensures { λ r. ⌜ r ≡ unreadAs read ⌝ }
 {
     match read {
@@ -165,7 +171,7 @@ fn unread(read: EventRead) -> Answer
 }
 
 // The place that comes with it.
-fn place_in(read: EventRead) -> u8
+pub fn place_in(read: EventRead) -> u8
     ensures { λ r. ⌜ r ≡ placeIn read ⌝ }
 {
     match read {
@@ -194,8 +200,19 @@ fn carry(call: Call, draft: Drafted, buffer: &mut [u8]) -> Stepped
     }
 }
 
-// An event that was read.
-fn decide(call: Call, event: Event, buffer: &mut [u8]) -> Stepped
+// How many bytes an event would write, nothing being changed.
+pub fn room_for(call: Call, event: Event) -> Room
+    ensures { λ r. ⌜ r ≡ roomFor call event ⌝ }
+{
+    let row = row_for(call, event);
+    if row.orders == 0 {
+        return Room::NoRow;
+    }
+    Room::Bytes(messages_size(settle(call, row)))
+}
+
+// The step of an event that was read, on a record that is sound.
+pub fn decide(call: Call, event: Event, buffer: &mut [u8]) -> Stepped
     ensures { λ r. ⌜ asOutcome r (now (buffer .exit)) ≡ decided call event (now (buffer .entry)) ⌝ }
 {
     if other_call(call, event) {

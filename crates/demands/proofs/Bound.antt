@@ -2,12 +2,14 @@
 use Prim.Native.Nat.{ℕ, _+_, _*_, _≤_}
 use mathlib.Core.Path.{_≡_, refl}
 use mathlib.Core.Bool.{Bool, true, false, cond, not, _&&_, _||_}
+use mathlib.Core.List.{List}
 use native.Mathlib.Omega.{arith}
 use borrow.Author.Tests.{leb-true, le-leb}
 use lib.Dec.{leb, eqb, lit≤}
 use lib.ListN.{length}
 use Rattle.records.specs.declared.events.Event.{Event}
 use Rattle.records.specs.declared.messages.Message.the-variants.{SetupConfirm, Complete, ReleaseIndication, TxIndication, ModifyIndication}
+use Rattle.records.specs.Tables.{Read}
 use Rattle.records.specs.Messages.{messageSize}
 use Rattle.records.specs.Bodies.{flatSize}
 use Rattle.callcontrol.specs.declared.call.State.{State}
@@ -20,18 +22,20 @@ use Rattle.callcontrol.specs.Draft.{_▷_, draft, go, storeId, storeMode, store
 use Rattle.callcontrol.specs.Rows
 use Rattle.callcontrol.specs.Rows.{rowFor}
 use Rattle.callcontrol.specs.Writing.{held, messagesIn, bytesOf, countOf}
+use Rattle.callcontrol.specs.Step.{otherCall, overTransmission, carried, decided, whenRead, stepOf}
 use Rattle.callcontrol.proofs.Laying.{size-messages, size-one}
 use Rattle.callcontrol.proofs.Verbs.{verbs}
 use Rattle.demands.specs.Runs.{Turn, outcome, run}
-use Rattle.demands.specs.Demands.{Kept, AtMost32, AtMost52}
+use Rattle.demands.specs.Demands.{Kept, AtMost32, Enough32, AtMost52}
 use Rattle.demands.proofs.Facts.{apart, left, right}
 use Rattle.demands.proofs.ByRow.{Ender, t301, t302, t303, t306, t310, Row, is-row}
 use Rattle.demands.proofs.Cases.{onPlane, by-plane, by-restart, by-grant, by-grantOrOff, limitedAs, by-start310}
+use Rattle.demands.proofs.Reading.{Reads, bad-length, no-kind, bad-body, is, reads}
 use Rattle.demands.proofs.Situations.{call, At, idle, mo, mt, up, broken, restoring, wait, disconnect, situated}
 use Rattle.demands.proofs.Sound.{always}
 use Rattle.demands.proofs.Timers as Timers
 use Rattle.demands.proofs.Timers.{Timed, Clocked, reached, Few, none, one, two, three, eight, ten, ten-eleven, eleven-only, six-only, six-ten, few}
-use Rattle.demands.proofs.Turns.{Turned, passed, took, turned}
+use Rattle.demands.proofs.Turns.{byTests, Turned, passed, took, turned}
 
 -- ---- what a draft takes, a CONFIGURE aside
 
@@ -237,6 +241,29 @@ turn-short c t k v (took e a) = rw (a .gives) (row-short c e k v (a .row))
 
 pub at-most-32 : AtMost32
 at-most-32 ts t = turn-short (run freshCall ts) t (always ts) (reached ts) (turned _ t)
+
+-- ---- so 32 are enough
+
+room-for-row : (other row over room : Bool) (c : Call) (d : Draft) (b : List ℕ) → (row ≡ true → room ≡ true) → byTests other row over room c d b .answer ≡ 7 → ⊥
+room-for-row true row over room c d b f seven = omega arith
+room-for-row false false over room c d b f seven = omega arith
+room-for-row false true true room c d b f seven = omega arith
+room-for-row false true false false c d b f seven = apart (f refl) refl
+room-for-row false true false true c d b f seven = omega arith
+
+read-enough : (c : Call) (s b : List ℕ) → Kept c → Clocked c → 32 ≤ length b → {r : Read Event} → Reads s r → whenRead r c b .answer ≡ 7 → ⊥
+unfolding decided carried
+read-enough c s b k v lent (bad-length l) seven = omega arith
+read-enough c s b k v lent (no-kind l n) seven = omega arith
+read-enough c s b k v lent (bad-body l n d) seven = omega arith
+read-enough c s b k v lent (is {e} l n d f) seven =
+    room-for-row (otherCall c e) (rowFor c e .taken) (overTransmission c e) (leb (length (bytesOf (messagesIn (rowFor c e)))) (length b)) c (rowFor c e) b
+    (λ h. le-leb (length (bytesOf (messagesIn (rowFor c e)))) (length b) (omega (arith, row-short c e k v h))) seven
+
+pub enough-32 : Enough32
+unfolding outcome stepOf
+enough-32 ts t lent seven =
+    read-enough (run freshCall ts) (t .event) (t .buffer) (always ts) (reached ts) lent (reads (t .event)) (rw (always ts .meets) at seven)
 
 -- ---- a sound record: any timers run, but not T306 and T311 at once
 

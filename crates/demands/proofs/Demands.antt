@@ -105,6 +105,9 @@ at-most-32 = Bound.at-most-32
 pub writes-32 : claims.Writes32
 writes-32 = Examples.writes-32
 
+pub enough-32 : claims.Enough32
+enough-32 = Bound.enough-32
+
 pub at-most-52 : claims.AtMost52
 at-most-52 = Bound.at-most-52
 

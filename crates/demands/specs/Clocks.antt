@@ -9,7 +9,7 @@ use lib.ListN.{getD, set}
 use Rattle.records.specs.declared.events.Event.{Event}
 use Rattle.records.specs.declared.events.Event.the-variants.{SetupRequest, SetupResponse, ReleaseRequest, TxRequest, ModifyRequest, DCallProceeding, DAlert, DConnect, DConnectAcknowledge, DSetup, DInfo, DTxGranted, DTxCeased, DTxInterrupt, DTxWait, DTxContinue, DCallRestore, DDisconnect, DRelease, ReportSent, ReportFailed, Break, Resume, Expiry}
 use Rattle.records.specs.declared.messages.Message.{Message}
-use Rattle.records.specs.declared.messages.Message.the-variants.{USetup, UConnect, UDisconnect, URelease, UInfo, UTxDemand, UTxCeased, UCallRestore, Stop, Start, Configure, Cancel, SetupIndication, SetupConfirm, Proceed, Alert, Complete, ReleaseIndication, ReleaseConfirm, TxIndication, ModifyIndication}
+use Rattle.records.specs.declared.messages.Message.the-variants.{USetup, UConnect, UDisconnect, URelease, UInfo, UTxDemand, UTxCeased, UCallRestore, Stop, Start, Configure, Cancel, Place, SetupIndication, SetupConfirm, Proceed, Alert, Complete, ReleaseIndication, ReleaseConfirm, TxIndication, ModifyIndication}
 use Rattle.callcontrol.specs.declared.call.Call.{Call}
 use Rattle.callcontrol.specs.Call.{T301, T302, T303, T306, T308, T310, T311}
 use Rattle.demands.specs.Runs.{Turn, next, takenBy, writtenBy}
@@ -43,6 +43,7 @@ noteMessage f (Stop n) = set f (place n) false
 noteMessage f (Start n o) = set f (place n) true
 noteMessage f (Configure p) = f
 noteMessage f Cancel = f
+noteMessage f (Place at) = f
 noteMessage f (SetupIndication i a d) = f
 noteMessage f (SetupConfirm i g) = f
 noteMessage f Proceed = f

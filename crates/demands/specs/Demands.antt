@@ -183,6 +183,10 @@ AtMost32 = (ts : List Turn) (t : Turn) → outcome (run freshCall ts) t .count �
 abbrev pub Writes32 : Type 0
 Writes32 = outcome (run freshCall (turn setupRequest 64 ∷ [])) (turn dConnect 32) .count ≡ 32
 
+-- so 7 never comes back in a run where 32 are lent
+abbrev pub Enough32 : Type 0
+Enough32 = (ts : List Turn) (t : Turn) → 32 ≤ length (t .buffer) → outcome (run freshCall ts) t .answer ≡ 7 → ⊥
+
 -- a step from any sound record, in reach or not, counts at most 52
 abbrev pub AtMost52 : Type 0
 AtMost52 = (c : Call) (t : Turn) → Kept c → outcome c t .count ≤ 52

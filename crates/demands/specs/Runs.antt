@@ -6,7 +6,7 @@ use mathlib.Core.Option.{Option, none, some}
 use lib.Dec.{eqb}
 use Rattle.records.specs.declared.events.Event.{Event}
 use Rattle.records.specs.declared.messages.Message.{Message}
-use Rattle.records.specs.declared.messages.Message.the-variants.{USetup, UConnect, UDisconnect, URelease, UInfo, UTxDemand, UTxCeased, UCallRestore, Stop, Start, Configure, Cancel, SetupIndication, SetupConfirm, Proceed, Alert, Complete, ReleaseIndication, ReleaseConfirm, TxIndication, ModifyIndication}
+use Rattle.records.specs.declared.messages.Message.the-variants.{USetup, UConnect, UDisconnect, URelease, UInfo, UTxDemand, UTxCeased, UCallRestore, Stop, Start, Configure, Cancel, Place, SetupIndication, SetupConfirm, Proceed, Alert, Complete, ReleaseIndication, ReleaseConfirm, TxIndication, ModifyIndication}
 use Rattle.records.specs.Tables.{Read, taken, refused, read}
 use Rattle.records.specs.Events.{events}
 use Rattle.callcontrol.specs.declared.call.Call.{Call}
@@ -76,6 +76,7 @@ toldAfter p (Stop n) = p
 toldAfter p (Start n o) = p
 toldAfter p (Configure plane) = plane
 toldAfter p Cancel = p
+toldAfter p (Place at) = p
 toldAfter p (SetupIndication i a d) = p
 toldAfter p (SetupConfirm i g) = p
 toldAfter p Proceed = p
@@ -108,6 +109,7 @@ endsCall (Stop n) = false
 endsCall (Start n o) = false
 endsCall (Configure plane) = false
 endsCall Cancel = false
+endsCall (Place at) = false
 endsCall (SetupIndication i a d) = false
 endsCall (SetupConfirm i g) = false
 endsCall Proceed = false
@@ -144,6 +146,7 @@ isUDisconnect (Stop n) = false
 isUDisconnect (Start n o) = false
 isUDisconnect (Configure plane) = false
 isUDisconnect Cancel = false
+isUDisconnect (Place at) = false
 isUDisconnect (SetupIndication i a d) = false
 isUDisconnect (SetupConfirm i g) = false
 isUDisconnect Proceed = false
@@ -167,6 +170,7 @@ isURelease (Stop n) = false
 isURelease (Start n o) = false
 isURelease (Configure plane) = false
 isURelease Cancel = false
+isURelease (Place at) = false
 isURelease (SetupIndication i a d) = false
 isURelease (SetupConfirm i g) = false
 isURelease Proceed = false

@@ -9,3 +9,4 @@ pub mod Packing
 pub mod Runs
 pub mod SerialLine
 pub mod Small
+pub mod Tables

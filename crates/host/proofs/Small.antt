@@ -22,31 +22,11 @@ use Rattle.callcontrol.specs.Call.{sound}
 use Rattle.callcontrol.specs.Rows.{rowFor}
 use Rattle.callcontrol.specs.Writing.{held, messagesIn, bytesOf, countOf}
 use Rattle.callcontrol.specs.Step.{Outcome, refusalAt, otherCall, overTransmission, carried, decided, whenRead, stepOf}
-use Rattle.callcontrol.proofs.Laying.{size-one, size-bound, size-messages}
+use Rattle.callcontrol.proofs.Laying.{messages-small}
 use Rattle.host.specs.Entries.{wroteWord}
 use Rattle.demands.proofs.Facts.{left, right}
 
 -- ---- a step writes at most seven STOPs and seven STARTs, CANCEL, a PDU, CONFIGURE and a primitive
-
-at-most : (b : Bool) (n : ℕ) → cond b n 0 ≤ n
-at-most true n = omega arith
-at-most false n = omega arith
-
-seven : (flags : List Bool) → countOf flags ≤ 7
-unfolding countOf
-seven flags =
-    let one : (k : ℕ) → cond (getD flags k false) 1 0 ≤ 1 = λ k. at-most (getD flags k false) 1 in
-    omega (arith, one 0, one 1, one 2, one 3, one 4, one 5, one 6)
-
-held-small : (slot : Slot) → length (bytesOf (held slot)) ≤ 11
-unfolding bytesOf
-held-small Slot.Empty = lit≤ tt
-held-small (Slot.Holds m) = omega (arith, size-one m, size-bound m)
-
-messages-small : (d : Draft) → length (bytesOf (messagesIn d)) ≤ 122
-messages-small d =
-    omega
-    (arith, size-messages d, seven (d .stops), seven (d .starts), held-small (d .pdu), held-small (d .user), at-most (d .cancel) 4, at-most (not (eqb (d .configure) 0)) 5)
 
 record Few (o : Outcome) : Type 0 where
   few : o .count ≤ 122

@@ -1,5 +1,6 @@
 pub mod Packing
 pub mod Entries
+pub mod Table
 pub mod Laws
 pub mod Runs
 pub mod SerialLine

@@ -11,6 +11,7 @@ ghost use Rattle.host.specs.Entries.{Left, freshened, hostStep, readWord
 mod bank;
 mod packed;
 mod serial;
+mod table;
 
 use crate::packed::held;
 use crate::packed::is_record;

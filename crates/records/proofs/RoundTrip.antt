@@ -49,6 +49,7 @@ most Byte.O16 = lit< tt
 most Byte.C = lit< tt
 most Byte.P = lit< tt
 most Byte.X = lit< tt
+most Byte.Y = lit< tt
 
 timer : (v : ℕ) → isTimer v ≡ true → v < 65536
 unfolding isTimer

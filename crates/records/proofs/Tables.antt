@@ -9,7 +9,7 @@ use Rattle.records.specs.Laws.{Lawful, distinct, numbers}
 use Rattle.records.specs.declared.events.Event.{Event}
 use Rattle.records.specs.declared.messages.Message.{Message}
 use Rattle.records.specs.Events.{events, EventKind, eventRow, eventKinds, eventOf, eventApart, setupRequest, setupResponse, releaseRequest, txRequest, modifyRequest, dCallProceeding, dAlert, dConnect, dConnectAcknowledge, dSetup, dInfo, dTxGranted, dTxCeased, dTxInterrupt, dTxWait, dTxContinue, dCallRestore, dDisconnect, dRelease, reportSent, reportFailed, break, resume, expiry}
-use Rattle.records.specs.Messages.{messages, MessageKind, messageRow, messageKinds, messageOf, messageApart, uSetup, uConnect, uDisconnect, uRelease, uInfo, uTxDemand, uTxCeased, uCallRestore, stop, start, configure, cancel, setupIndication, setupConfirm, proceed, alert, complete, releaseIndication, releaseConfirm, txIndication, modifyIndication}
+use Rattle.records.specs.Messages.{messages, MessageKind, messageRow, messageKinds, messageOf, messageApart, uSetup, uConnect, uDisconnect, uRelease, uInfo, uTxDemand, uTxCeased, uCallRestore, stop, start, configure, cancel, setupIndication, setupConfirm, proceed, alert, complete, releaseIndication, releaseConfirm, txIndication, modifyIndication, namedPlace}
 
 -- no number stands for two kinds, in one table or in both
 pub told-apart : distinct (numbers events ++ numbers messages) ≡ true
@@ -97,6 +97,7 @@ message-line releaseIndication = (refl, λ vs. refl)
 message-line releaseConfirm = (refl, λ vs. refl)
 message-line txIndication = (refl, λ vs. refl)
 message-line modifyIndication = (refl, λ vs. refl)
+message-line namedPlace = (refl, λ vs. refl)
 
 pub message-found : (k : MessageKind) → find messages (messageRow k .number) messageKinds ≡ some k
 message-found k = message-line k .0
@@ -123,6 +124,7 @@ message-again (Message.ReleaseIndication cause) = refl
 message-again Message.ReleaseConfirm = refl
 message-again (Message.TxIndication told) = refl
 message-again (Message.ModifyIndication mode) = refl
+message-again (Message.Place at) = refl
 
 pub message-lawful : Lawful messages
 message-lawful = record { together = λ k. message-line k .1; again = message-again; found = message-found; narrow = refl }

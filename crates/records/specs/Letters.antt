@@ -64,6 +64,10 @@ p = byte Byte.P
 abbrev pub x : Letter
 x = byte Byte.X
 
+-- a place of the console, of document 02
+abbrev pub y : Letter
+y = byte Byte.Y
+
 -- least ≤ v ≤ most
 unfoldable pub within : ℕ → ℕ → ℕ → Bool
 within least most v = leb least v && leb v most
@@ -87,6 +91,7 @@ spanOf Byte.O16 = from 0 16
 spanOf Byte.C = from 1 4
 spanOf Byte.P = from 1 4
 spanOf Byte.X = from 0 8
+spanOf Byte.Y = from 0 7
 
 -- the numbers that a letter may stand for
 abbrev pub fits : Letter → ℕ → Bool

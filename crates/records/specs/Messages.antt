@@ -3,14 +3,14 @@ use Prim.Native.Nat.{ℕ, _+_}
 use mathlib.Core.Bool.{Bool, true, _||_}
 use mathlib.Core.List.{List, [], _∷_}
 use lib.Dec.{eqb}
-use Rattle.records.specs.Letters.{width, a₁, d, q, i, i₀, c, a, n, o, p, g, x}
+use Rattle.records.specs.Letters.{width, a₁, d, q, i, i₀, c, a, n, o, p, g, x, y}
 use Rattle.records.specs.declared.messages.Message.{Message}
 use Rattle.records.specs.declared.messages.MessageRead.{MessageRead}
 use Rattle.records.specs.Bodies.{Values, flatBytes, flatSize}
 use Rattle.records.specs.Tables.{Row, row, Table, Read, taken, refused, flat}
 
 pub data MessageKind : Type 0 where
-  uSetup uConnect uDisconnect uRelease uInfo uTxDemand uTxCeased uCallRestore stop start configure cancel setupIndication setupConfirm proceed alert complete releaseIndication releaseConfirm txIndication modifyIndication : MessageKind
+  uSetup uConnect uDisconnect uRelease uInfo uTxDemand uTxCeased uCallRestore stop start configure cancel setupIndication setupConfirm proceed alert complete releaseIndication releaseConfirm txIndication modifyIndication namedPlace : MessageKind
 
 abbrev pub messageRow : MessageKind → Row
 messageRow uSetup = row 0x0501 (a₁ ∷ d ∷ q ∷ [])
@@ -34,6 +34,8 @@ messageRow releaseIndication = row 0x0706 (c ∷ [])
 messageRow releaseConfirm = row 0x0707 ([])
 messageRow txIndication = row 0x0708 (x ∷ [])
 messageRow modifyIndication = row 0x0709 (d ∷ [])
+-- of document 02
+messageRow namedPlace = row 0x0605 (y ∷ [])
 
 abbrev pub messageKinds : List MessageKind
 messageKinds =
@@ -58,6 +60,7 @@ messageKinds =
     releaseConfirm ∷
     txIndication ∷
     modifyIndication ∷
+    namedPlace ∷
     []
 
 -- the value that a kind's letters stand for
@@ -83,6 +86,7 @@ messageOf releaseIndication v = Message.ReleaseIndication (v .0)
 messageOf releaseConfirm v = Message.ReleaseConfirm
 messageOf txIndication v = Message.TxIndication (v .0)
 messageOf modifyIndication v = Message.ModifyIndication (v .0)
+messageOf namedPlace v = Message.Place (v .0)
 
 -- a value's kind, and its fields in the letters' order
 abbrev pub messageApart : Message → (kind : MessageKind) × Values (messageRow kind .letters)
@@ -107,6 +111,7 @@ messageApart (Message.ReleaseIndication cause) = (releaseIndication, (cause, tt)
 messageApart Message.ReleaseConfirm = (releaseConfirm, tt)
 messageApart (Message.TxIndication told) = (txIndication, (told, tt))
 messageApart (Message.ModifyIndication mode) = (modifyIndication, (mode, tt))
+messageApart (Message.Place at) = (namedPlace, (at, tt))
 
 -- START's code is T310's; every other timer has 0
 unfoldable pub startAgrees : ℕ → ℕ → Bool
@@ -134,6 +139,7 @@ messageAgrees (Message.ReleaseIndication cause) = true
 messageAgrees Message.ReleaseConfirm = true
 messageAgrees (Message.TxIndication told) = true
 messageAgrees (Message.ModifyIndication mode) = true
+messageAgrees (Message.Place at) = true
 
 abbrev pub messages : Table
 messages =

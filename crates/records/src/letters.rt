@@ -24,6 +24,8 @@ pub enum Byte {
     P,
     // What TX indication tells, 0 to 8.
     X,
+    // A place of the console, 0 to 7.
+    Y,
 }
 
 // Letters of two bytes.
@@ -64,6 +66,7 @@ fn span_of(letter: Byte) -> Span
         Byte::C => Span { least: 1, most: 4 },
         Byte::P => Span { least: 1, most: 4 },
         Byte::X => Span { least: 0, most: 8 },
+        Byte::Y => Span { least: 0, most: 7 },
     }
 }
 

@@ -68,6 +68,8 @@ pub enum Message {
     TxIndication { told: u8 },
     // 0709 MODIFY indication. The mode of the call.
     ModifyIndication { mode: u8 },
+    // 0605 PLACE, of document 02. The messages behind it, up to the next such record, are those of this place of a console.
+    Place { at: u8 },
 }
 
 // What reading finds: the value, or the paper's refusals 2, 3 and 4; 4 with the place of the first wrong field, or 2 for the body's size.
@@ -303,6 +305,15 @@ fn read_kind(kind: u16, s: &[u8]) -> MessageRead
             };
             MessageRead::Is(Message::ModifyIndication { mode })
         }
+        0x0605 => { // PLACE y
+            if s.len() != 5 {
+                return MessageRead::BadBody(2);
+            }
+            let ByteField::Is(at) = byte_in(s, 4, Byte::Y) else {
+                return MessageRead::BadBody(4);
+            };
+            MessageRead::Is(Message::Place { at })
+        }
         _ => MessageRead::UnknownKind,
     }
 }
@@ -496,6 +507,14 @@ fn put_message(m: Message, out: &mut [u8]) -> usize
             put_byte(out, 4, mode);
             5
         }
+        Message::Place { at } => { // PLACE y
+            if out.len() < 5 {
+                return 0;
+            }
+            put_head(out, 5, 0x0605);
+            put_byte(out, 4, at);
+            5
+        }
     }
 }
 
@@ -539,6 +558,7 @@ fn message_fits(m: Message) -> bool
         Message::ReleaseConfirm => true, // RELEASE confirm
         Message::TxIndication { told } => byte_fits(Byte::X, told), // TX indication x
         Message::ModifyIndication { mode } => byte_fits(Byte::D, mode), // MODIFY indication d
+        Message::Place { at } => byte_fits(Byte::Y, at), // PLACE y
     }
 }
 
@@ -594,6 +614,7 @@ pub fn message_size(m: Message) -> usize
         Message::ReleaseConfirm => 4, // RELEASE confirm
         Message::TxIndication { told: _ } => 5, // TX indication x
         Message::ModifyIndication { mode: _ } => 5, // MODIFY indication d
+        Message::Place { at: _ } => 5, // PLACE y
     }
 }
 

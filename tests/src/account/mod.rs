@@ -9,6 +9,7 @@
 pub mod bank;
 pub mod boundary;
 pub mod call;
+pub mod console;
 pub mod history;
 pub mod pieces;
 pub mod records;

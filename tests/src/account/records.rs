@@ -9,6 +9,8 @@ pub const MAX_T310_CODE: u8 = 15;
 /// In D-INFO and D-CALL RESTORE alone: no T310 code is given.
 pub const ABSENT_T310_CODE: u8 = 16;
 pub const MAX_TX_INDICATION: u8 = 8;
+/// Of the console.
+pub const MAX_PLACE: u8 = 7;
 
 /// Length and kind.
 pub const HEAD_LEN: usize = 4;
@@ -133,6 +135,8 @@ pub enum Message {
     Start { n: Timer, o: u8 },
     Configure { p: Plane },
     Cancel,
+    // Before the messages of a place of the console.
+    Place { place: u8 },
     // To the user.
     SetupIndication { i: u16, a: u32, d: Mode },
     SetupConfirm { i: u16, g: Grant },
@@ -357,6 +361,7 @@ impl Message {
             }
             0x0603 => Message::Configure { p: body.of(1)?.p()? },
             0x0604 => body.of(0).map(|_| Message::Cancel)?,
+            0x0605 => Message::Place { place: body.of(1)?.place()? },
             0x0701 => {
                 let mut b = body.of(7)?;
                 Message::SetupIndication { i: b.i()?, a: b.a()?, d: b.d()? }
@@ -399,6 +404,7 @@ impl Message {
             }
             Message::Start { n, o } => start_code(n, o),
             Message::TxIndication { x } => x <= MAX_TX_INDICATION,
+            Message::Place { place } => place <= MAX_PLACE,
             Message::Stop { .. }
             | Message::Configure { .. }
             | Message::Cancel
@@ -444,6 +450,7 @@ impl Put for Message {
             }
             Message::Configure { p } => sink.record(0x0603, [p as u8]),
             Message::Cancel => sink.record(0x0604, []),
+            Message::Place { place } => sink.record(0x0605, [place]),
             Message::SetupIndication { i, a, d } => {
                 let [i0, i1] = i.to_le_bytes();
                 let [a0, a1, a2, a3] = a.to_le_bytes();
@@ -620,6 +627,10 @@ impl<'a> Body<'a> {
 
     fn p(&mut self) -> Result<Plane, Refusal> {
         self.byte(Plane::from_number)
+    }
+
+    fn place(&mut self) -> Result<u8, Refusal> {
+        self.byte(|place| Some(place).filter(|&place| place <= MAX_PLACE))
     }
 
     fn x(&mut self) -> Result<u8, Refusal> {

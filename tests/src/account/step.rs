@@ -15,6 +15,12 @@ impl Call {
             return Err(Refusal::NotSound);
         }
         let event = Event::read(event)?;
+        self.take(event, out)
+    }
+
+    /// Takes one event that was read, on a sound record.
+    #[inline]
+    pub fn take(&mut self, event: Event, out: &mut [u8]) -> Result<usize, Refusal> {
         if event.call_identifier().is_some_and(|i| !self.agrees(i)) {
             return Err(Refusal::Identifier);
         }

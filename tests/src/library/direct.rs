@@ -1,6 +1,7 @@
 //! The library linked into this process.
 
 use super::bank;
+use super::console;
 use crate::request::{self, Function, Place, BLOCK, INPUT, OUT, RECORD};
 use std::ffi::c_void;
 
@@ -123,6 +124,8 @@ fn call(function: Function, number: u32, [record, input, out]: [&mut [u8]; 3]) -
             bank::start(record, bank::numbers(input), number as u16, (number >> 16) as u8)
         }
         Function::BankAdvance => bank::advance(record, number, bank::numbers(out)),
+        Function::ConsoleFresh => console::fresh(record),
+        Function::ConsoleStep => console::step(record, number as u8, input, out),
     }
 }
 

@@ -7,6 +7,9 @@ mod instructions;
 #[cfg(not(bridged))]
 mod measure;
 
+#[cfg(not(bridged))]
+mod console;
+
 fn main() {
     #[cfg(bridged)]
     println!(
@@ -18,5 +21,6 @@ fn main() {
     {
         measure::main();
         bank::main();
+        console::main();
     }
 }

@@ -2,7 +2,7 @@
 use mathlib.Core.Path.{refl, sym, _∙_}
 use borrow.Author.Tests.{not-true, not-false}
 use borrow.Author.Needs.{needs}
-use Rattle.records.specs.Messages.{messages, uSetup, uConnect, uDisconnect, uRelease, uInfo, uTxDemand, uTxCeased, uCallRestore, stop, start, configure, cancel, setupIndication, setupConfirm, proceed, alert, complete, releaseIndication, releaseConfirm, txIndication, modifyIndication}
+use Rattle.records.specs.Messages.{messages, uSetup, uConnect, uDisconnect, uRelease, uInfo, uTxDemand, uTxCeased, uCallRestore, stop, start, configure, cancel, setupIndication, setupConfirm, proceed, alert, complete, releaseIndication, releaseConfirm, txIndication, modifyIndication, namedPlace}
 use Rattle.records.proofs.Reading.{end, then, wrong, past}
 use Rattle.records.proofs.Rows.{other-size, bad, apart, good, unknown}
 use Rattle.records.proofs.Tables.{message-found}
@@ -62,6 +62,8 @@ read-kind-spec =
     (λ c κs. search needs) (λ c. search needs) (λ c. search needs) (λ c. bad messages message-found txIndication _ (c .before .before .before .before .match .keys20) (c .before .before .before .if21 .left) (wrong (rw (c .enum-told26 .given .1) at (c .before .before .byte-in12 .ensures))))
     (λ c. other-size messages message-found modifyIndication _ (c .before .match .keys21) (c .if22 .taken))
     (λ c κs. search needs) (λ c. search needs) (λ c. search needs) (λ c. bad messages message-found modifyIndication _ (c .before .before .before .before .match .keys21) (c .before .before .before .if22 .left) (wrong (rw (c .enum-told27 .given .1) at (c .before .before .byte-in13 .ensures))))
+    (λ c. other-size messages message-found namedPlace _ (c .before .match .keys22) (c .if23 .taken))
+    (λ c κs. search needs) (λ c. search needs) (λ c. search needs) (λ c. bad messages message-found namedPlace _ (c .before .before .before .before .match .keys22) (c .before .before .before .if23 .left) (wrong (rw (c .enum-told28 .given .1) at (c .before .before .byte-in14 .ensures))))
     (λ c. good messages message-found uSetup _ (c .before .before .before .before .before .before .before .before .before .before .before .before .before .match .keys1) (c .before .before .before .before .before .before .before .before .before .before .before .before .if1 .left) (then (rw (c .before .before .before .before .before .before .before .before .before .address .given .1) at (c .before .before .before .before .before .before .before .before .before .before .before .long-in .ensures)) (then (rw (c .before .before .before .before .before .mode .given .1) at (c .before .before .before .before .before .before .before .byte-in .ensures)) (then (rw (c .before .ask .given .1) at (c .before .before .before .byte-in2 .ensures)) end))) refl)
     (λ c. good messages message-found uConnect _ (c .before .before .before .before .before .match .keys2) (c .before .before .before .before .if2 .left) (then (rw (c .before .id .given .1) at (c .before .before .before .word-in .ensures)) end) refl)
     (λ c. good messages message-found uDisconnect _ (c .before .before .before .before .before .before .before .before .before .match .keys3) (c .before .before .before .before .before .before .before .before .if3 .left) (then (rw (c .before .before .before .before .before .id2 .given .1) at (c .before .before .before .before .before .before .before .word-in2 .ensures)) (then (rw (c .before .cause .given .1) at (c .before .before .before .byte-in3 .ensures)) end)) refl)
@@ -83,4 +85,5 @@ read-kind-spec =
     (λ c. good messages message-found releaseConfirm _ (c .before .match .keys19) (c .if20 .left) end refl)
     (λ c. good messages message-found txIndication _ (c .before .before .before .before .before .match .keys20) (c .before .before .before .before .if21 .left) (then (rw (c .before .told .given .1) at (c .before .before .before .byte-in12 .ensures)) end) refl)
     (λ c. good messages message-found modifyIndication _ (c .before .before .before .before .before .match .keys21) (c .before .before .before .before .if22 .left) (then (rw (c .before .mode4 .given .1) at (c .before .before .before .byte-in13 .ensures)) end) refl)
+    (λ c. good messages message-found namedPlace _ (c .before .before .before .before .before .match .keys22) (c .before .before .before .before .if23 .left) (then (rw (c .before .at .given .1) at (c .before .before .before .byte-in14 .ensures)) end) refl)
     (λ c. unknown messages _ _ (c .match .rest)))

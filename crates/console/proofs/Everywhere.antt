@@ -1,0 +1,374 @@
+-- An event at every place: what is counted and laid place by place is what is counted and laid for all.
+use Prim.Native.Nat.{ℕ, zero, suc, _+_, _-_, _*_, _≤_, _<_}
+use mathlib.Core.Path.{_≡_, refl, sym, _∙_, ap}
+use mathlib.Core.Bool.{Bool, true, false, cond, not, _||_}
+use mathlib.Core.List.{List, [], _∷_, _++_, append-nil, append-assoc}
+use native.Mathlib.Nat.{zero-add, add-zero}
+use native.Mathlib.Numerals.{add-one}
+use native.Mathlib.Omega.{arith}
+use borrow.Author.Tests.{eq-eqb, ne-eqb, le-leb, lt-leb, not-true, not-false, eqb-true}
+use borrow.Rule.Slice.PartMut.{putMid}
+use lib.Dec.{leb, eqb, lit≤}
+use lib.ListN.{length, take, drop, set, length-append, length-drop, take-append-drop, drop-of-length-le}
+use lib.Seq.{sets, length-sets, take-all, take-suc, length-take-le, drop-cons, set-at, getD-at}
+use Rattle.records.specs.declared.events.Event.{Event}
+use Rattle.records.specs.declared.messages.Message.{Message}
+use Rattle.records.specs.Messages.{messageBytes}
+use Rattle.records.proofs.Laws.{sets-append}
+use Rattle.callcontrol.specs.declared.call.Call.{Call}
+use Rattle.callcontrol.specs.declared.step.Room.{Room}
+use Rattle.callcontrol.specs.Rows.{rowFor}
+use Rattle.callcontrol.specs.Writing.{messagesIn, bytesOf}
+use Rattle.callcontrol.specs.Step.{Outcome, refusal, otherCall, overTransmission, decided, roomFor}
+use Rattle.callcontrol.proofs.Laying.{messages-small, size-append}
+use Rattle.console.specs.declared.route.Aim.{Aim}
+use Rattle.console.specs.declared.console.Count.{Count}
+use Rattle.console.specs.Table.{noCall, callAt, some?}
+use Rattle.console.specs.Route.{aimOf}
+use Rattle.console.specs.Console.{behind, writes, placed, takes, writesFrom, nextOf, allNext, headed, counted, countedAll, LaidAll, ConsoleOutcome, everywhere, refuses}
+use Rattle.console.proofs.Placing.{bytesAt, taking, place-size, no-bytes, behind-some, row-carried, row-missing, carried-whole, placed-refuses, placed-takes, part-whole, put-whole, stored-part}
+
+-- ---- one place more
+
+-- what a place writes
+abbrev pub part : ℕ → Call → Event → List Message
+part k c e = cond (takes e c) (writes k c e) []
+
+pub bytes-append : (ms ns : List Message) → bytesOf (ms ++ ns) ≡ bytesOf ms ++ bytesOf ns
+unfolding bytesOf
+bytes-append [] ns = refl
+bytes-append (m ∷ ms) ns = ap (λ (z : List ℕ). messageBytes m ++ z) (bytes-append ms ns) ∙ sym (append-assoc (messageBytes m) (bytesOf ms) (bytesOf ns))
+
+from-append : (j : ℕ) (xs ys : List Call) (e : Event) → writesFrom j (xs ++ ys) e ≡ writesFrom j xs e ++ writesFrom (j + length xs) ys e
+from-append j [] ys e = rw add-zero
+from-append j (c ∷ xs) ys e =
+    let n : suc j + length xs ≡ j + suc (length xs) = omega arith in
+    ap (λ (z : List Message). part j c e ++ z) (from-append (suc j) xs ys e ∙ ap (λ (m : ℕ). writesFrom (suc j) xs e ++ writesFrom m ys e) n)
+    ∙ sym (append-assoc (part j c e) (writesFrom (suc j) xs e) (writesFrom (j + suc (length xs)) ys e))
+
+next-append : (xs ys : List Call) (e : Event) → allNext (xs ++ ys) e ≡ allNext xs e ++ allNext ys e
+next-append [] ys e = refl
+next-append (c ∷ xs) ys e = ap (λ (z : List Call). nextOf e c ∷ z) (next-append xs ys e)
+
+pub next-length : (xs : List Call) (e : Event) → length (allNext xs e) ≡ length xs
+next-length [] e = refl
+next-length (c ∷ xs) e = ap suc (next-length xs e)
+
+some-append : (p : Call → Bool) (xs : List Call) (c : Call) → some? p (xs ++ c ∷ []) ≡ (p c || some? p xs)
+some-append p [] c = refl
+some-append p (x ∷ xs) c = ap (λ (b : Bool). p x || b) (some-append p xs c) ∙ swap (p x) (p c) (some? p xs)
+  where
+    swap : (a b c : Bool) → (a || (b || c)) ≡ (b || (a || c))
+    swap true true c = refl
+    swap true false c = refl
+    swap false true c = refl
+    swap false false c = refl
+
+module _ (calls : List Call) (e : Event) where
+  -- what the first k places write
+  abbrev pub done : ℕ → List Message
+  done k = writesFrom 0 (take k calls) e
+
+  more : (k : ℕ) → k < length calls → take (k + 1) calls ≡ take k calls ++ callAt calls k ∷ []
+  more k lt = ap (λ (n : ℕ). take n calls) (add-one k) ∙ take-suc calls k noCall lt
+
+  pub done-more : (k : ℕ) → k < length calls → done (k + 1) ≡ done k ++ part k (callAt calls k) e
+  done-more k lt =
+      let n : 0 + length (take k calls) ≡ k = (let l = length-take-le k calls (omega arith) in omega arith) in
+      ap (λ (z : List Call). writesFrom 0 z e) (more k lt)
+      ∙ from-append 0 (take k calls) (callAt calls k ∷ []) e
+      ∙ ap (λ (m : ℕ). done k ++ writesFrom m (callAt calls k ∷ []) e) n
+      ∙ ap (λ (z : List Message). done k ++ z) (append-nil (part k (callAt calls k) e))
+
+  pub done-all : (k : ℕ) → length calls ≤ k → done k ≡ writesFrom 0 calls e
+  done-all k le = ap (λ (z : List Call). writesFrom 0 z e) (take-all k calls le)
+
+  -- the first k places write no more than all
+  pub done-within : (k : ℕ) → length (bytesOf (done k)) ≤ length (bytesOf (writesFrom 0 calls e))
+  done-within k =
+      let s : writesFrom 0 calls e ≡ done k ++ writesFrom (0 + length (take k calls)) (drop k calls) e =
+      ap (λ (z : List Call). writesFrom 0 z e) (sym (take-append-drop k calls)) ∙ from-append 0 (take k calls) (drop k calls) e in
+      rw s (omega (arith, size-append (done k) (writesFrom (0 + length (take k calls)) (drop k calls) e)))
+
+-- ---- counting
+
+abbrev pub counting : Bool → ℕ → Count
+counting t n = record { taken = t; size = n }
+
+headed-few : (n : ℕ) → n ≤ 122 → (z : Bool) → cond z 0 (5 + n) ≤ 127
+headed-few n h true = omega arith
+headed-few n h false = omega arith
+
+pub headed-within : {n m : ℕ} → n ≤ 122 → m ≡ headed n → m ≤ 127
+headed-within {n} h is = rw is (headed-few n h (eqb n 0))
+
+module _ (c : Call) (e : Event) where
+  pub part-size : (k : ℕ) (t : Bool) → takes e c ≡ t → length (bytesOf (part k c e)) ≡ cond t (headed (length (bytesAt c e))) 0
+  unfolding bytesOf
+  part-size k true t = ap (λ (x : Bool). length (bytesOf (cond x (writes k c e) []))) t ∙ by-bytes (messagesIn (rowFor c e))
+    where
+      by-bytes : (ms : List Message) → length (bytesOf (behind k ms)) ≡ headed (length (bytesOf ms))
+      by-bytes [] = refl
+      by-bytes (m ∷ ms) =
+          let some : length (bytesOf (m ∷ ms)) ≡ 0 → ⊥ = λ z. let w : _≡_ {A = ℕ} 0 1 = cc (no-bytes (m ∷ ms) z) in omega arith in
+          length-append (messageBytes (Message.Place k)) (bytesOf (m ∷ ms)) ∙ ap (λ (n : ℕ). n + length (bytesOf (m ∷ ms))) (place-size k)
+          ∙ sym (ap (λ (x : Bool). cond x 0 (5 + length (bytesOf (m ∷ ms)))) (ne-eqb _ _ some))
+  part-size k false t = ap (λ (x : Bool). length (bytesOf (cond x (writes k c e) []))) t
+
+  -- room that is wanted says that there is a row, and how long its messages are
+  wanted : (t : Bool) → takes e c ≡ t → {n : ℕ} → Room.Bytes n ≡ roomFor c e → (takes e c ≡ true) × (n ≡ length (bytesAt c e))
+  unfolding roomFor
+  wanted true t {n} h = (t, cc (h ∙ ap (λ (x : Bool). cond x (Room.Bytes (length (bytesAt c e))) Room.NoRow) t))
+  wanted false t {n} h =
+      let w : _≡_ {A = ℕ} 0 1 = cc (h ∙ ap (λ (x : Bool). cond x (Room.Bytes (length (bytesAt c e))) Room.NoRow) t) in absurd (omega arith)
+
+  unwanted : (t : Bool) → takes e c ≡ t → Room.NoRow ≡ roomFor c e → takes e c ≡ false
+  unfolding roomFor
+  unwanted true t h =
+      let w : _≡_ {A = ℕ} 0 1 = cc (h ∙ ap (λ (x : Bool). cond x (Room.Bytes (length (bytesAt c e))) Room.NoRow) t) in absurd (omega arith)
+  unwanted false t h = t
+
+  pub wanted-few : {n : ℕ} → Room.Bytes n ≡ roomFor c e → n ≤ 122
+  wanted-few h = rw (wanted (takes e c) refl h .1) (messages-small (rowFor c e))
+
+  -- the code's count is the definition's
+  pub count-more : (w : Count) {n m : ℕ} → Room.Bytes n ≡ roomFor c e → m ≡ headed n → counting true (w .size + m) ≡ counted w c e
+  unfolding counted
+  count-more w h size =
+      let g = wanted (takes e c) refl h in
+      ap (λ (x : ℕ). counting true (w .size + x)) (size ∙ ap (λ (x : ℕ). headed x) (g .1))
+      ∙ ap (λ (x : Bool). cond x (counting true (w .size + headed (length (bytesAt c e)))) w) (sym (g .0))
+
+  pub count-same : (w : Count) → Room.NoRow ≡ roomFor c e → w ≡ counted w c e
+  unfolding counted
+  count-same w h =
+      ap (λ (x : Bool). cond x (counting true (w .size + headed (length (bytesAt c e)))) w) (sym (unwanted (takes e c) refl h))
+
+  few-more : (w : Count) (t : Bool) → cond t (counting true (w .size + headed (length (bytesAt c e)))) w .size ≤ w .size + 127
+  few-more w true = omega (arith, headed-few (length (bytesAt c e)) (messages-small (rowFor c e)) (eqb (length (bytesAt c e)) 0))
+  few-more w false = omega arith
+
+  pub few-counted : (w : Count) {r : Count} → r ≡ counted w c e → r .size ≤ w .size + 127
+  unfolding counted
+  few-counted w is = rw is (few-more w (takes e c))
+
+by-taken : (t s : Bool) (n m : ℕ) → cond t (counting true (n + m)) (counting s n) ≡ counting (t || s) (n + cond t m 0)
+by-taken true s n m = refl
+by-taken false s n m = ap (λ (x : ℕ). counting s x) (sym (add-zero n))
+
+module _ (calls : List Call) (e : Event) where
+  pub counted-none : counting false 0 ≡ countedAll (take 0 calls) e
+  unfolding countedAll bytesOf
+  counted-none = refl
+
+  pub counted-more : (k : ℕ) → k < length calls → counted (countedAll (take k calls) e) (callAt calls k) e ≡ countedAll (take (k + 1) calls) e
+  unfolding counted countedAll
+  counted-more k lt =
+      let c = callAt calls k in
+      let taken : some? (takes e) (take (k + 1) calls) ≡ (takes e c || some? (takes e) (take k calls)) =
+      ap (λ (z : List Call). some? (takes e) z) (more calls e k lt) ∙ some-append (takes e) (take k calls) c in
+      let size : length (bytesOf (done calls e (k + 1))) ≡ length (bytesOf (done calls e k)) + cond (takes e c) (headed (length (bytesAt c e))) 0 =
+      ap (λ (z : List Message). length (bytesOf z)) (done-more calls e k lt)
+      ∙ size-append (done calls e k) (part k c e)
+      ∙ ap (λ (n : ℕ). length (bytesOf (done calls e k)) + n) (part-size c e k (takes e c) refl) in
+      by-taken (takes e c) (some? (takes e) (take k calls)) (length (bytesOf (done calls e k))) (headed (length (bytesAt c e)))
+      ∙ (λ i. counting (sym taken i) (sym size i))
+
+  pub counted-all : (k : ℕ) → length calls ≤ k → countedAll (take k calls) e ≡ countedAll calls e
+  counted-all k le = ap (λ (z : List Call). countedAll z e) (take-all k calls le)
+
+-- ---- laying
+
+-- only BREAK and RESUME are for every place
+pub every-is : (P : Event → Type 0) → P Event.Break → P Event.Resume → (e : Event) → aimOf e ≡ Aim.Every → P e
+every-is P b r (Event.SetupRequest a d q) h = let x : _≡_ {A = ℕ} 0 1 = cc h in absurd (omega arith)
+every-is P b r Event.SetupResponse h = let x : _≡_ {A = ℕ} 0 1 = cc h in absurd (omega arith)
+every-is P b r Event.ReleaseRequest h = let x : _≡_ {A = ℕ} 0 1 = cc h in absurd (omega arith)
+every-is P b r (Event.TxRequest k) h = let x : _≡_ {A = ℕ} 0 1 = cc h in absurd (omega arith)
+every-is P b r (Event.ModifyRequest d) h = let x : _≡_ {A = ℕ} 0 1 = cc h in absurd (omega arith)
+every-is P b r (Event.DCallProceeding i) h = let x : _≡_ {A = ℕ} 0 1 = cc h in absurd (omega arith)
+every-is P b r (Event.DAlert i) h = let x : _≡_ {A = ℕ} 0 1 = cc h in absurd (omega arith)
+every-is P b r (Event.DConnect i g d o) h = let x : _≡_ {A = ℕ} 0 1 = cc h in absurd (omega arith)
+every-is P b r (Event.DConnectAcknowledge i g o) h = let x : _≡_ {A = ℕ} 0 1 = cc h in absurd (omega arith)
+every-is P b r (Event.DSetup i a d) h = let x : _≡_ {A = ℕ} 0 1 = cc h in absurd (omega arith)
+every-is P b r (Event.DInfo i s o d) h = let x : _≡_ {A = ℕ} 0 1 = cc h in absurd (omega arith)
+every-is P b r (Event.DTxGranted i g) h = let x : _≡_ {A = ℕ} 0 1 = cc h in absurd (omega arith)
+every-is P b r (Event.DTxCeased i) h = let x : _≡_ {A = ℕ} 0 1 = cc h in absurd (omega arith)
+every-is P b r (Event.DTxInterrupt i g) h = let x : _≡_ {A = ℕ} 0 1 = cc h in absurd (omega arith)
+every-is P b r (Event.DTxWait i) h = let x : _≡_ {A = ℕ} 0 1 = cc h in absurd (omega arith)
+every-is P b r (Event.DTxContinue i k) h = let x : _≡_ {A = ℕ} 0 1 = cc h in absurd (omega arith)
+every-is P b r (Event.DCallRestore i g s o) h = let x : _≡_ {A = ℕ} 0 1 = cc h in absurd (omega arith)
+every-is P b r (Event.DDisconnect i) h = let x : _≡_ {A = ℕ} 0 1 = cc h in absurd (omega arith)
+every-is P b r (Event.DRelease i) h = let x : _≡_ {A = ℕ} 0 1 = cc h in absurd (omega arith)
+every-is P b r Event.ReportSent h = let x : _≡_ {A = ℕ} 0 1 = cc h in absurd (omega arith)
+every-is P b r Event.ReportFailed h = let x : _≡_ {A = ℕ} 0 1 = cc h in absurd (omega arith)
+every-is P b r Event.Break h = b
+every-is P b r Event.Resume h = r
+every-is P b r (Event.Expiry n) h = let x : _≡_ {A = ℕ} 0 1 = cc h in absurd (omega arith)
+
+-- they are of no call, and never over own transmission
+pub ours : (c : Call) (e : Event) → aimOf e ≡ Aim.Every → otherCall c e ≡ false
+unfolding otherCall
+ours c e every = every-is (λ w. otherCall c w ≡ false) refl refl e every
+
+pub silent : (c : Call) (e : Event) → aimOf e ≡ Aim.Every → overTransmission c e ≡ false
+silent c e every = every-is (λ w. overTransmission c w ≡ false) refl refl e every
+
+headed-room : (n l : ℕ) (z : Bool) → eqb n 0 ≡ z → cond z 0 (5 + n) ≤ l → n ≤ l - 5
+headed-room n l true e h = omega (arith, eqb-true n 0 e)
+headed-room n l false e h = omega arith
+
+-- a place that has room for its part has room for its messages behind the record that names it
+pub part-room : (k : ℕ) (c : Call) (e : Event) (b : List ℕ) → takes e c ≡ true → length (bytesOf (part k c e)) ≤ length b
+    → length (bytesAt c e) ≤ length (drop 5 b)
+part-room k c e b t room =
+    rw (length-drop 5 b) (headed-room (length (bytesAt c e)) (length b) (eqb (length (bytesAt c e)) 0) refl (rw (part-size c e k true t) at room))
+
+-- where there is room, a place that takes the event writes its part, and another stays as it is
+pub record Placed (k : ℕ) (c : Call) (e : Event) (b : List ℕ) (o : Outcome) : Type 0 where
+  pub call : o .call ≡ nextOf e c
+  pub count : o .count ≡ length (bytesOf (part k c e))
+  pub buffer : o .buffer ≡ sets b 0 (bytesOf (part k c e))
+
+module _ (k : ℕ) (c : Call) (e : Event) (b : List ℕ) (every : aimOf e ≡ Aim.Every) (room : length (bytesOf (part k c e)) ≤ length b) where
+  placed-by : (t : Bool) → takes e c ≡ t → Placed k c e b (placed k c e b)
+  unfolding bytesOf
+  placed-by true t =
+      let fits : length (bytesAt c e) ≤ length (drop 5 b) = part-room k c e b t room in
+      let d : decided c e (drop 5 b) ≡ taking c e (drop 5 b) = row-carried c e (drop 5 b) (ours c e every) t (silent c e every) ∙ carried-whole c e (drop 5 b) fits in
+      let w = sym (placed-takes k c e b d) in
+      record {
+        call = ap (λ (o : Outcome). o .call) w ∙ ap (λ (x : Bool). cond x (rowFor c e .call) c) (sym t);
+        count = ap (λ (o : Outcome). o .count) w ∙ ap (λ (x : Bool). length (bytesOf (cond x (writes k c e) []))) (sym t);
+        buffer = ap (λ (o : Outcome). o .buffer) w ∙ ap (λ (x : Bool). sets b 0 (bytesOf (cond x (writes k c e) []))) (sym t);
+      }
+  placed-by false t =
+      let d : decided c e (drop 5 b) ≡ refusal 6 c (drop 5 b) = row-missing c e (drop 5 b) (ours c e every) t in
+      let w = sym (placed-refuses k c e b 6 (lit≤ tt) d) in
+      record {
+        call = ap (λ (o : Outcome). o .call) w ∙ ap (λ (x : Bool). cond x (rowFor c e .call) c) (sym t);
+        count = ap (λ (o : Outcome). o .count) w ∙ ap (λ (x : Bool). length (bytesOf (cond x (writes k c e) []))) (sym t);
+        buffer = ap (λ (o : Outcome). o .buffer) w ∙ ap (λ (x : Bool). sets b 0 (bytesOf (cond x (writes k c e) []))) (sym t);
+      }
+
+  pub placed-part : Placed k c e b (placed k c e b)
+  placed-part = placed-by (takes e c) refl
+
+-- the buffer and the table where k places have been passed
+pub record Putting (e : Event) (b₀ : List ℕ) (calls : List Call) (b : List ℕ) (after : List Call) (at k : ℕ) : Type 0 where
+  pub bytes : b ≡ sets b₀ 0 (bytesOf (done calls e k))
+  pub records : after ≡ allNext (take k calls) e ++ drop k calls
+  pub position : at ≡ length (bytesOf (done calls e k))
+  pub passed : k ≤ 8
+  pub eight : length calls ≡ 8
+  pub room : length (bytesOf (writesFrom 0 calls e)) ≤ length b₀
+
+pub put-none : {e : Event} {b : List ℕ} {calls : List Call} → length calls ≡ 8 → length (bytesOf (writesFrom 0 calls e)) ≤ length b
+    → Putting e b calls b calls 0 0
+unfolding bytesOf
+put-none eight room = record { bytes = refl; records = refl; position = refl; passed = omega arith; eight = eight; room = room }
+
+module _ {e : Event} {b₀ : List ℕ} {calls : List Call} {b : List ℕ} {after : List Call} {at k : ℕ} (p : Putting e b₀ calls b after at k) where
+  pub same-room : length b ≡ length b₀
+  same-room = ap length (p .bytes) ∙ length-sets b₀ 0 (bytesOf (done calls e k))
+
+  pub position-within : at ≤ length b
+  position-within = let w = done-within calls e k in let l = same-room in let a = p .position in let r = p .room in omega arith
+
+  pub put-all : length calls ≤ k → LaidAll after b calls e b₀
+  put-all le =
+      record {
+        records =
+            p .records
+            ∙ ap (λ (z : List Call). allNext z e ++ drop k calls) (take-all k calls le)
+            ∙ ap (λ (z : List Call). allNext calls e ++ z) (drop-of-length-le calls le)
+            ∙ append-nil (allNext calls e);
+        bytes = p .bytes ∙ ap (λ (z : List Message). sets b₀ 0 (bytesOf z)) (done-all calls e k le);
+      }
+
+  module _ (lt : k < 8) where
+    before : length (allNext (take k calls) e) ≡ k
+    before = let n = p .eight in next-length (take k calls) e ∙ length-take-le k calls (omega arith)
+
+    split : after ≡ allNext (take k calls) e ++ callAt calls k ∷ drop (suc k) calls
+    split = let n = p .eight in p .records ∙ ap (λ (z : List Call). allNext (take k calls) e ++ z) (drop-cons calls k noCall (omega arith))
+
+    -- the record that is next is the one of the table
+    next-call : callAt after k ≡ callAt calls k
+    next-call = ap (λ (z : List Call). callAt z k) split ∙ getD-at (allNext (take k calls) e) (callAt calls k) (drop (suc k) calls) noCall k before
+
+    size-more : length (bytesOf (done calls e (k + 1))) ≡ at + length (bytesOf (part k (callAt calls k) e))
+    size-more =
+        let n = p .eight in
+        ap (λ (z : List Message). length (bytesOf z)) (done-more calls e k (omega arith))
+        ∙ size-append (done calls e k) (part k (callAt calls k) e)
+        ∙ ap (λ (m : ℕ). m + length (bytesOf (part k (callAt calls k) e))) (sym (p .position))
+
+    room-more : at + length (bytesOf (part k (callAt calls k) e)) ≤ length b
+    room-more =
+        let s = size-more in let w = done-within calls e (k + 1) in let l = same-room in let r = p .room in omega arith
+
+    module _ {o : Outcome} (every : aimOf e ≡ Aim.Every) (step : o ≡ placed k (callAt after k) e (take (length b - at) (drop at b))) where
+      placing : Placed k (callAt calls k) e (drop at b) o
+      placing =
+          let room : length (bytesOf (part k (callAt calls k) e)) ≤ length (drop at b) =
+          (let r = room-more in rw (length-drop at b) (omega arith)) in
+          let same : o ≡ placed k (callAt calls k) e (drop at b) =
+          step ∙ ap (λ (c : Call). placed k c e (take (length b - at) (drop at b))) next-call
+          ∙ ap (λ (z : List ℕ). placed k (callAt calls k) e z) (part-whole b at) in
+          rw same (placed-part k (callAt calls k) e (drop at b) every room)
+
+      pub count-within : at + o .count ≤ length b
+      count-within = let r = room-more in let c = placing .count in omega arith
+
+      pub put-more : Putting e b₀ calls (putMid at (length b - at) b (o .buffer)) (set after k (o .call)) (at + o .count) (k + 1)
+      put-more =
+          let n = p .eight in
+          let whole : bytesOf (done calls e (k + 1)) ≡ bytesOf (done calls e k) ++ bytesOf (part k (callAt calls k) e) =
+          ap bytesOf (done-more calls e k (omega arith)) ∙ bytes-append (done calls e k) (part k (callAt calls k) e) in
+          record {
+            bytes =
+                put-whole b (o .buffer) at
+                ∙ ap (λ (z : List ℕ). take at b ++ z) (placing .buffer)
+                ∙ stored-part b (bytesOf (part k (callAt calls k) e)) at room-more
+                ∙ ap (λ (z : List ℕ). sets z at (bytesOf (part k (callAt calls k) e))) (p .bytes)
+                ∙ ap (λ (m : ℕ). sets (sets b₀ 0 (bytesOf (done calls e k))) m (bytesOf (part k (callAt calls k) e))) (p .position ∙ sym (zero-add _))
+                ∙ sym (sets-append (bytesOf (done calls e k)) b₀ (bytesOf (part k (callAt calls k) e)) 0)
+                ∙ ap (λ (z : List ℕ). sets b₀ 0 z) (sym whole);
+            records =
+                ap (λ (z : List Call). set z k (o .call)) split
+                ∙ set-at (allNext (take k calls) e) (callAt calls k) (drop (suc k) calls) (o .call) k before
+                ∙ ap (λ (c : Call). allNext (take k calls) e ++ c ∷ drop (suc k) calls) (placing .call)
+                ∙ sym
+                (ap (λ (z : List Call). allNext z e ++ drop (k + 1) calls) (more calls e k (omega arith))
+                ∙ ap (λ (z : List Call). z ++ drop (k + 1) calls) (next-append (take k calls) (callAt calls k ∷ []) e)
+                ∙ append-assoc (allNext (take k calls) e) (nextOf e (callAt calls k) ∷ []) (drop (k + 1) calls)
+                ∙ ap (λ (m : ℕ). allNext (take k calls) e ++ nextOf e (callAt calls k) ∷ drop m calls) (add-one k));
+            position = ap (λ (m : ℕ). at + m) (placing .count) ∙ sym size-more;
+            passed = omega arith;
+            eight = n;
+            room = p .room;
+          }
+
+-- ---- an event at every place: the answers
+
+module _ (calls : List Call) (e : Event) (b : List ℕ) {w : Count} (count : w ≡ countedAll calls e) where
+  pub none-takes : not (w .taken) ≡ true → refuses 6 calls b ≡ everywhere calls e b
+  unfolding everywhere countedAll
+  none-takes none = rw (sym (ap (λ (x : Count). x .taken) count) ∙ not-true _ none)
+
+  pub no-space : not (w .taken) ≡ false → length b < w .size → refuses 7 calls b ≡ everywhere calls e b
+  unfolding everywhere countedAll
+  no-space some short =
+      rw (sym (ap (λ (x : Count). x .taken) count) ∙ not-false _ some, lt-leb _ _ (rw (ap (λ (x : Count). x .size) count) at short))
+
+  pub space : w .size ≤ length b → length (bytesOf (writesFrom 0 calls e)) ≤ length b
+  unfolding countedAll
+  space room = rw (ap (λ (x : Count). x .size) count) at room
+
+  pub all-take : not (w .taken) ≡ false → w .size ≤ length b → {after : List Call} {now : List ℕ} → LaidAll after now calls e b
+      → _≡_ {A = ConsoleOutcome} (record { answer = 0; place = 0; calls = after; count = w .size; buffer = now }) (everywhere calls e b)
+  unfolding everywhere countedAll
+  all-take some room laid =
+      rw
+      (sym (ap (λ (x : Count). x .taken) count) ∙ not-false _ some, le-leb _ _ (space room), laid .records, laid .bytes, ap (λ (x : Count). x .size) count)

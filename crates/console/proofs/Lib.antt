@@ -1,0 +1,16 @@
+pub mod Answering
+pub mod Answers
+pub mod Demands
+pub mod Determined
+pub mod Everywhere
+pub mod Named
+pub mod Places
+pub mod Placing
+pub mod Rooms
+pub mod Routing
+pub mod Tables
+pub mod Timers
+pub mod Turns
+pub mod Twins
+pub mod Went
+pub mod Witness

@@ -1,0 +1,21 @@
+-- The witness's run goes as its lines say, and the room that it wants is wanted, by computation.
+use mathlib.Core.Path.{refl}
+use Rattle.demands.proofs.Computed.{computed}
+use Rattle.demands.specs.Demands.{restores, quiet}
+use Rattle.console.specs.Table.{holds, alike, tableSound}
+use Rattle.console.specs.Route.{atNamed, atLowestIdle, outgoing, incoming, atHolder, routeOf}
+use Rattle.console.specs.Console.{placed, atPlace, everywhere, consoleOf}
+use Rattle.console.specs.Runs.{consoleOutcome, consoleNext, consoleRun, wentTo, wentIn}
+use Rattle.console.specs.Witness.{shown, TwoCalls, RoomReached, PremisesMet}
+
+pub two-calls : TwoCalls
+unfolding shown computed holds alike tableSound atNamed atLowestIdle outgoing incoming atHolder routeOf placed atPlace everywhere consoleOf consoleOutcome consoleNext consoleRun
+two-calls = refl
+
+pub room-reached : RoomReached
+unfolding computed holds alike tableSound atNamed atLowestIdle outgoing incoming atHolder routeOf placed atPlace everywhere consoleOf consoleOutcome consoleNext consoleRun
+room-reached = (refl, refl)
+
+pub premises-met : PremisesMet
+unfolding computed restores quiet holds alike tableSound atNamed atLowestIdle outgoing incoming atHolder routeOf placed atPlace everywhere consoleOf consoleOutcome consoleNext consoleRun wentTo wentIn
+premises-met = record { went = refl; broke = refl; calm = refl; back = refl; restored = refl; came = refl; ended = refl }

@@ -1,0 +1,7 @@
+pub mod Table
+pub mod Route
+pub mod Console
+pub mod Runs
+pub mod Answers
+pub mod Demands
+pub mod Witness

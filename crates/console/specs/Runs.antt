@@ -1,0 +1,72 @@
+-- Any run of the console: the table after it, and the turns of the step that each place has in it.
+use Prim.Native.Nat.{ℕ, suc, _+_}
+use mathlib.Core.Bool.{Bool, cond, _&&_}
+use mathlib.Core.List.{List, [], _∷_, _++_}
+use lib.Dec.{leb, eqb}
+use lib.ListN.{length, take, drop}
+use Rattle.records.specs.declared.events.Event.{Event}
+use Rattle.records.specs.declared.messages.Message.{Message}
+use Rattle.records.specs.Tables.{Read, taken, refused, read}
+use Rattle.records.specs.Events.{events}
+use Rattle.callcontrol.specs.declared.call.Call.{Call}
+use Rattle.callcontrol.specs.Writing.{bytesOf}
+use Rattle.demands.specs.Runs.{Turn, writtenIn}
+use Rattle.console.specs.declared.route.Route.{Route}
+use Rattle.console.specs.Table.{callAt, tableSound}
+use Rattle.console.specs.Route.{routeOf}
+use Rattle.console.specs.Console.{ConsoleOutcome, consoleOf, behind, takes, writesFrom}
+
+-- any place named, any bytes handed in, any buffer lent
+pub record ConsoleTurn : Type 0 where
+  pub place : ℕ
+  pub event : List ℕ
+  pub buffer : List ℕ
+
+unfoldable pub consoleOutcome : List Call → ConsoleTurn → ConsoleOutcome
+consoleOutcome calls t = consoleOf calls (t .place) (t .event) (t .buffer)
+
+-- the table that a turn gives back
+unfoldable pub consoleNext : List Call → ConsoleTurn → List Call
+consoleNext calls t = consoleOutcome calls t .calls
+
+-- the table after some turns
+unfoldable pub consoleRun : List Call → List ConsoleTurn → List Call
+consoleRun calls [] = calls
+consoleRun calls (t ∷ ts) = consoleRun (consoleNext calls t) ts
+
+-- the step's turn at a place: the event's bytes, and the buffer behind what the places below it write and the record that names the place
+abbrev pub lentBehind : ℕ → ConsoleTurn → Turn
+lentBehind at t = record { event = t .event; buffer = drop 5 (drop at (t .buffer)) }
+
+-- whether what an event writes everywhere fits
+abbrev pub allFits : List Call → Event → List ℕ → Bool
+allFits calls e buffer = leb (length (bytesOf (writesFrom 0 calls e))) (length buffer)
+
+-- the step's turns at place k that an event brings: one where it goes to k, and else none. An event for every place goes to each that takes it,
+-- and to none where there is no room for all
+abbrev pub goes : ℕ → Route → List Call → Event → ConsoleTurn → List Turn
+goes k (Route.To j) calls e t = cond (eqb j k) (lentBehind 0 t ∷ []) []
+goes k Route.Everywhere calls e t =
+    cond (allFits calls e (t .buffer) && takes e (callAt calls k)) (lentBehind (length (bytesOf (writesFrom 0 (take k calls) e))) t ∷ []) []
+goes k (Route.Refused a) calls e t = []
+
+abbrev pub goesRead : ℕ → Read Event → List Call → ConsoleTurn → List Turn
+goesRead k (taken e) calls t = goes k (routeOf calls (t .place) e) calls e t
+goesRead k (refused n p) calls t = []
+
+-- the step's turns at place k in a turn of the console
+unfoldable pub wentTo : ℕ → List Call → ConsoleTurn → List Turn
+wentTo k calls t = cond (tableSound calls) (goesRead k (read events (t .event)) calls t) []
+
+-- and in a run of it
+unfoldable pub wentIn : ℕ → List Call → List ConsoleTurn → List Turn
+wentIn k calls [] = []
+wentIn k calls (t ∷ ts) = wentTo k calls t ++ wentIn k (consoleNext calls t) ts
+
+-- what the places of a list write in their turns, places rising, each behind its record 0605
+abbrev pub framedFrom : ℕ → List Call → (ℕ → List Turn) → List Message
+framedFrom k [] turns = []
+framedFrom k (c ∷ cs) turns = behind k (writtenIn c (turns k)) ++ framedFrom (suc k) cs turns
+
+unfoldable pub framed : List Call → ConsoleTurn → List Message
+framed calls t = framedFrom 0 calls (λ k. wentTo k calls t)

@@ -1,0 +1,134 @@
+-- That the claims are not true for the wrong reason: a run with two places at work, event by event, and eight calls cut and restored at once.
+use Prim.Native.Nat.{ℕ, zero, suc}
+use mathlib.Core.Path.{_≡_}
+use mathlib.Core.Bool.{Bool, true, _&&_}
+use mathlib.Core.List.{List, [], _∷_, _++_}
+use mathlib.Core.Option.{some}
+use lib.Dec.{eqb}
+use lib.ListN.{take, drop}
+use Rattle.records.specs.declared.events.Event.the-variants.{Break, DCallRestore}
+use Rattle.callcontrol.specs.declared.call.Call.{Call}
+use Rattle.callcontrol.specs.Call.{stateNumber, pathNumber}
+use Rattle.console.specs.Table.{callAt, freshTable}
+use Rattle.console.specs.Console.{ConsoleOutcome}
+use Rattle.demands.specs.Runs.{takenBy, ends}
+use Rattle.demands.specs.Demands.{quiet}
+use Rattle.console.specs.Runs.{ConsoleTurn, consoleOutcome, consoleRun, lentBehind, wentTo, wentIn}
+
+abbrev zeros : ℕ → List ℕ
+zeros zero = []
+zeros (suc n) = 0 ∷ zeros n
+
+-- 184 bytes are lent
+abbrev pub turn : ℕ → List ℕ → ConsoleTurn
+turn place event = record { place = place; event = event; buffer = zeros 184 }
+
+-- how a place stands: state, path, plane
+pub record Stand : Type 0 where
+  pub state : ℕ
+  pub path : ℕ
+  pub plane : ℕ
+
+abbrev pub stand : ℕ → ℕ → ℕ → Stand
+stand s p l = record { state = s; path = p; plane = l }
+
+-- what is handed in; then the answer, the count of bytes, and how places 0 and 1 stand
+pub record Line : Type 0 where
+  pub place : ℕ
+  pub event : List ℕ
+  pub answer : ℕ
+  pub count : ℕ
+  pub first : Stand
+  pub second : Stand
+
+abbrev pub line : ℕ → List ℕ → ℕ → ℕ → Stand → Stand → Line
+line place event answer count first second =
+    record { place = place; event = event; answer = answer; count = count; first = first; second = second }
+
+-- one transmits, is cut and restored, while the other is set up and ends
+abbrev pub twoCalls : List Line
+twoCalls =
+    -- SETUP request goes to the lowest IDLE place, whatever place is named; D-CONNECT to the place that has no identifier
+    line 9 (10 ∷ 0 ∷ 1 ∷ 1 ∷ 7 ∷ 0 ∷ 0 ∷ 0 ∷ 0 ∷ 1 ∷ []) 0 22 (stand 1 0 4) (stand 0 0 4)
+    ∷ line 9 (10 ∷ 0 ∷ 1 ∷ 1 ∷ 8 ∷ 0 ∷ 0 ∷ 0 ∷ 0 ∷ 1 ∷ []) 42 0 (stand 1 0 4) (stand 0 0 4)
+    ∷ line 0 (9 ∷ 0 ∷ 3 ∷ 2 ∷ 21 ∷ 0 ∷ 0 ∷ 0 ∷ 3 ∷ []) 0 37 (stand 3 0 1) (stand 0 0 4)
+    -- D-SETUP, and once more with the identifier that is then held
+    ∷ line 0 (11 ∷ 0 ∷ 5 ∷ 2 ∷ 30 ∷ 0 ∷ 9 ∷ 0 ∷ 0 ∷ 0 ∷ 0 ∷ []) 0 16 (stand 3 0 1) (stand 2 0 4)
+    ∷ line 0 (11 ∷ 0 ∷ 5 ∷ 2 ∷ 30 ∷ 0 ∷ 9 ∷ 0 ∷ 0 ∷ 0 ∷ 0 ∷ []) 41 0 (stand 3 0 1) (stand 2 0 4)
+    -- BREAK reaches the call that is connected; SETUP response names its place
+    ∷ line 0 (4 ∷ 0 ∷ 3 ∷ 3 ∷ []) 0 16 (stand 3 1 4) (stand 2 0 4)
+    ∷ line 1 (4 ∷ 0 ∷ 2 ∷ 1 ∷ []) 0 18 (stand 3 1 4) (stand 2 0 4)
+    ∷ line 8 (4 ∷ 0 ∷ 2 ∷ 1 ∷ []) 40 0 (stand 3 1 4) (stand 2 0 4)
+    -- RESUME; D-CONNECT ACKNOWLEDGE for the one, D-CALL RESTORE for the other
+    ∷ line 0 (4 ∷ 0 ∷ 4 ∷ 3 ∷ []) 0 23 (stand 3 2 4) (stand 2 0 4)
+    ∷ line 0 (8 ∷ 0 ∷ 4 ∷ 2 ∷ 30 ∷ 0 ∷ 1 ∷ 2 ∷ []) 0 28 (stand 3 2 4) (stand 3 0 4)
+    ∷ line 0 (9 ∷ 0 ∷ 12 ∷ 2 ∷ 21 ∷ 0 ∷ 0 ∷ 0 ∷ 16 ∷ []) 0 28 (stand 3 0 1) (stand 3 0 4)
+    -- the second call ends, and the first still transmits; nobody holds 99
+    ∷ line 0 (6 ∷ 0 ∷ 14 ∷ 2 ∷ 30 ∷ 0 ∷ []) 0 21 (stand 3 0 1) (stand 0 0 4)
+    ∷ line 0 (6 ∷ 0 ∷ 14 ∷ 2 ∷ 99 ∷ 0 ∷ []) 5 0 (stand 3 0 1) (stand 0 0 4)
+    ∷ []
+
+abbrev stands : Call → Stand → Bool
+stands c s = eqb (stateNumber (c .state)) (s .state) && (eqb (pathNumber (c .path)) (s .path) && eqb (c .plane) (s .plane))
+
+abbrev agrees : ConsoleOutcome → Line → Bool
+agrees o l =
+    eqb (o .answer) (l .answer) && (eqb (o .count) (l .count) && (stands (callAt (o .calls) 0) (l .first) && stands (callAt (o .calls) 1) (l .second)))
+
+-- every line shows, each on the table that the last gave back
+unfoldable pub shown : List Call → List Line → Bool
+shown calls [] = true
+shown calls (l ∷ ls) = agrees (consoleOutcome calls (turn (l .place) (l .event))) l && shown (consoleOutcome calls (turn (l .place) (l .event)) .calls) ls
+
+abbrev pub TwoCalls : Type 0
+TwoCalls = shown freshTable twoCalls ≡ true
+
+-- a call that comes in at a place and transmits, with the identifier above its place
+abbrev comesIn : ℕ → List ConsoleTurn
+comesIn k =
+    turn 0 (11 ∷ 0 ∷ 5 ∷ 2 ∷ suc k ∷ 0 ∷ 9 ∷ 0 ∷ 0 ∷ 0 ∷ 0 ∷ [])
+    ∷ turn k (4 ∷ 0 ∷ 2 ∷ 1 ∷ [])
+    ∷ turn 0 (8 ∷ 0 ∷ 4 ∷ 2 ∷ suc k ∷ 0 ∷ 0 ∷ 2 ∷ [])
+    ∷ []
+
+-- eight of them
+abbrev pub eightCalls : List Call
+eightCalls = consoleRun freshTable (comesIn 0 ++ comesIn 1 ++ comesIn 2 ++ comesIn 3 ++ comesIn 4 ++ comesIn 5 ++ comesIn 6 ++ comesIn 7)
+
+-- the room that BREAK and RESUME may want is wanted
+abbrev pub RoomReached : Type 0
+RoomReached =
+    (consoleOutcome eightCalls (turn 0 (4 ∷ 0 ∷ 3 ∷ 3 ∷ [])) .count ≡ 128)
+    × (consoleOutcome (consoleOutcome eightCalls (turn 0 (4 ∷ 0 ∷ 3 ∷ 3 ∷ [])) .calls) (turn 0 (4 ∷ 0 ∷ 4 ∷ 3 ∷ [])) .count ≡ 184)
+
+-- ---- the premises of CutAt, RestoredAt and EndedAt, met in the first run
+
+abbrev turnsOf : List Line → List ConsoleTurn
+turnsOf [] = []
+turnsOf (l ∷ ls) = turn (l .place) (l .event) ∷ turnsOf ls
+
+-- its turns from the m-th on, n of them, and the table after the first n
+abbrev pub some-turns : ℕ → ℕ → List ConsoleTurn
+some-turns m n = take n (drop m (turnsOf twoCalls))
+
+abbrev pub tableAt : ℕ → List Call
+tableAt n = consoleRun freshTable (some-turns 0 n)
+
+abbrev breaks : ConsoleTurn
+breaks = turn 0 (4 ∷ 0 ∷ 3 ∷ 3 ∷ [])
+
+abbrev restores : ConsoleTurn
+restores = turn 0 (9 ∷ 0 ∷ 12 ∷ 2 ∷ 21 ∷ 0 ∷ 0 ∷ 0 ∷ 16 ∷ [])
+
+abbrev releases : ConsoleTurn
+releases = turn 0 (6 ∷ 0 ∷ 14 ∷ 2 ∷ 30 ∷ 0 ∷ [])
+
+-- place 0 is cut by the sixth turn and restored by the eleventh, with four turns between; the call at place 1 ends with the twelfth
+pub record PremisesMet : Type 0 where
+  pub went : wentTo 0 (tableAt 5) breaks ≡ lentBehind 0 breaks ∷ []
+  pub broke : takenBy (callAt (tableAt 5) 0) (lentBehind 0 breaks) ≡ some Break
+  pub calm : quiet (callAt (tableAt 5) 0 .id) (callAt (tableAt 6) 0) (wentIn 0 (tableAt 6) (some-turns 6 4)) ≡ true
+  pub back : wentTo 0 (tableAt 10) restores ≡ lentBehind 0 restores ∷ []
+  pub restored : takenBy (callAt (tableAt 10) 0) (lentBehind 0 restores) ≡ some (DCallRestore 21 0 0 16)
+  pub came : wentTo 1 (tableAt 11) releases ≡ lentBehind 0 releases ∷ []
+  pub ended : ends (callAt (tableAt 11) 1) (lentBehind 0 releases) ≡ true

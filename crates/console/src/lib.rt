@@ -1,0 +1,4 @@
+// A console with eight calls: where an event goes, the step of the call at that place, and the messages behind the place's record.
+pub mod console;
+pub mod route;
+mod table;

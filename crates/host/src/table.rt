@@ -1,0 +1,111 @@
+// The console on byte slices: a table is eight records of 21 bytes, one after the other.
+ghost use mathlib.Core.Path.{_≡_};
+ghost use mathlib.Core.List.{List};
+ghost use Prim.Native.Nat.{ℕ};
+ghost use lib.ListN.{length};
+ghost use Rattle.host.specs.Table.{TableLeft, isTable, heldTable, packedInto, consoleFreshened, consoleHostStep};
+use crate::packed::held;
+use crate::packed::is_record;
+use crate::packed::pack;
+use callcontrol::call::Call;
+use console::console::console_step;
+use console::route::console_number;
+
+// Whether some bytes are eight records.
+fn is_table(s: &[u8]) -> bool
+    ensures { λ r. ⌜ r ≡ isTable (now (s .entry)) ⌝ }
+{
+    if s.len() != 168 {
+        return false;
+    }
+    if !is_record(&s[0..21]) {
+        return false;
+    }
+    if !is_record(&s[21..42]) {
+        return false;
+    }
+    if !is_record(&s[42..63]) {
+        return false;
+    }
+    if !is_record(&s[63..84]) {
+        return false;
+    }
+    if !is_record(&s[84..105]) {
+        return false;
+    }
+    if !is_record(&s[105..126]) {
+        return false;
+    }
+    if !is_record(&s[126..147]) {
+        return false;
+    }
+    is_record(&s[147..168])
+}
+
+// The calls that a table's bytes hold.
+fn held_table(s: &[u8]) -> [Call; 8]
+    requires { ⌜ length (now s) ≡ 168 ⌝ }
+    ensures { λ r. ⌜ r ≡ heldTable (now (s .entry)) ⌝ }
+{
+    [
+        held(&s[0..21]),
+        held(&s[21..42]),
+        held(&s[42..63]),
+        held(&s[63..84]),
+        held(&s[84..105]),
+        held(&s[105..126]),
+        held(&s[126..147]),
+        held(&s[147..168]),
+    ]
+}
+
+// Eight calls into a table's bytes.
+fn pack_table(calls: [Call; 8], s: &mut [u8])
+    requires { ⌜ length (now s) ≡ 168 ⌝ }
+    ensures { λ _. ⌜ now (s .exit) ≡ packedInto calls (now (s .entry)) ⌝ }
+{
+    pack(calls[0], &mut s[0..21]);
+    pack(calls[1], &mut s[21..42]);
+    pack(calls[2], &mut s[42..63]);
+    pack(calls[3], &mut s[63..84]);
+    pack(calls[4], &mut s[84..105]);
+    pack(calls[5], &mut s[105..126]);
+    pack(calls[6], &mut s[126..147]);
+    pack(calls[7], &mut s[147..168]);
+}
+
+// Writes eight fresh records; answer 1 where the table has not 168 bytes.
+#[no_mangle]
+pub extern "C" fn callcontrol_console_fresh(table: &mut [u8]) -> u32
+    ensures { λ r. ⌜ _≡_ {A = ℕ × List ℕ} (r, now (table .exit)) (consoleFreshened (now (table .entry))) ⌝ }
+{
+    if table.len() != 168 {
+        return 16777216;
+    }
+    pack_table([Call::fresh(); 8], table);
+    168
+}
+
+// One event for the console: the table goes on and the messages are in out, or nothing is changed.
+#[no_mangle]
+pub extern "C" fn callcontrol_console_step(
+    table: &mut [u8],
+    place: u8,
+    event: &[u8],
+    out: &mut [u8],
+) -> u32
+    ensures { λ r. ⌜ _≡_ {A = TableLeft} (record { result = r; table = now (table .exit); out = now (out .exit) }) (consoleHostStep (now (table .entry)) place (now (event .entry)) (now (out .entry))) ⌝ }
+{
+    if !is_table(table) {
+        return 16777216;
+    }
+    let stepped = console_step(held_table(table), place, event, out);
+    let answer = stepped.answer;
+    let after = stepped.calls;
+    let number = console_number(answer) as u32;
+    let result = number * 16777216 + (stepped.place as u32) * 65536 + stepped.count as u32;
+    if number == 0 {
+        pack_table(after, table);
+    }
+    result
+}

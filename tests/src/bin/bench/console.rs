@@ -1,0 +1,102 @@
+//! How long one step of the console takes: the library beside the account, on the same tape of events
+//! for up to eight calls, in one run.
+//!
+//! The account is measured behind the same interface as the library (168 packed bytes in and out) and
+//! once more with the eight calls kept as structs. Rounds alternate, and the best of each counts.
+
+use callcontrol_tests::account::console::{self, Console, TABLE_LEN};
+use callcontrol_tests::library;
+use callcontrol_tests::tape::{console_tape, ConsoleTape, CONSOLE_OUT_LEN, EVENTS};
+use std::hint::black_box;
+use std::time::Instant;
+
+const ROUNDS: usize = 100;
+
+/// What a run over the tape gave, so that no one can leave out the work.
+#[derive(Clone, Copy, Debug, PartialEq, Eq)]
+struct Sum {
+    words: u64,
+    table: [u8; TABLE_LEN],
+}
+
+fn run_packed(tape: &ConsoleTape, step: impl Fn(&mut [u8], u8, &[u8], &mut [u8]) -> u32) -> Sum {
+    let mut table = Console::FRESH.pack();
+    let mut out = [0; CONSOLE_OUT_LEN];
+    let mut words = 0u64;
+    for (place, event) in tape.events() {
+        let word = step(&mut table, place, event, black_box(&mut out));
+        words = words.wrapping_mul(31).wrapping_add(u64::from(word));
+    }
+    Sum { words, table }
+}
+
+#[inline(never)]
+fn account_step(table: &mut [u8], place: u8, event: &[u8], out: &mut [u8]) -> u32 {
+    console::step(table, place, event, out)
+}
+
+#[inline(never)]
+fn struct_step(console: &mut Console, place: u8, event: &[u8], out: &mut [u8]) -> u32 {
+    match console.step(place, event, out) {
+        Ok(count) => count as u32,
+        Err(refusal) => u32::from(refusal.number()) << 24 | u32::from(refusal.place()) << 16,
+    }
+}
+
+fn run_library(tape: &ConsoleTape) -> Sum {
+    run_packed(tape, library::console::step)
+}
+
+fn run_account(tape: &ConsoleTape) -> Sum {
+    run_packed(tape, account_step)
+}
+
+fn run_struct(tape: &ConsoleTape) -> Sum {
+    let mut console = Console::FRESH;
+    let mut out = [0; CONSOLE_OUT_LEN];
+    let mut words = 0u64;
+    for (place, event) in tape.events() {
+        let word = struct_step(&mut console, place, event, black_box(&mut out));
+        words = words.wrapping_mul(31).wrapping_add(u64::from(word));
+    }
+    Sum { words, table: console.pack() }
+}
+
+pub fn main() {
+    let tape = console_tape();
+    let mut answers = std::collections::BTreeMap::new();
+    let (mut console, mut busy) = (Console::FRESH, 0);
+    for (place, event) in tape.events() {
+        let word = struct_step(&mut console, place, event, &mut [0; CONSOLE_OUT_LEN]);
+        *answers.entry(word >> 24).or_insert(0) += 1;
+        busy += console.calls.iter().filter(|call| call.state as u8 != 0).count();
+    }
+    println!(
+        "console: {EVENTS} events from fresh, {:.1} places busy on average, by answer: {answers:?}",
+        busy as f64 / EVENTS as f64
+    );
+
+    type Run = fn(&ConsoleTape) -> Sum;
+    let runs: [(&str, Run); 3] = [
+        ("library", run_library),
+        ("account, packed table", run_account),
+        ("account, table kept as structs", run_struct),
+    ];
+    let mut best = [f64::INFINITY; 3];
+    let expected = run_account(&tape);
+    for _ in 0..ROUNDS {
+        for (place, (name, run)) in runs.iter().enumerate() {
+            let start = Instant::now();
+            let sum = run(black_box(&tape));
+            let elapsed = start.elapsed().as_nanos() as f64 / EVENTS as f64;
+            assert_eq!(sum, expected, "{name} went another way");
+            best[place] = best[place].min(elapsed);
+        }
+    }
+    println!("best of {ROUNDS} alternating rounds:");
+    for ((name, _), best) in runs.iter().zip(best) {
+        println!("  {name:<34}{best:>8.1} ns per step");
+    }
+    println!("  {:<34}{:>8.2}", "ratio library / account, packed", best[0] / best[1]);
+    println!("  {:<34}{:>8.2}", "ratio library / account, structs", best[0] / best[2]);
+}
