@@ -14,13 +14,13 @@ use Rattle.records.specs.Bodies.{flatSize}
 use Rattle.callcontrol.specs.declared.call.State.{State}
 use Rattle.callcontrol.specs.declared.call.Path.{Path}
 use Rattle.callcontrol.specs.declared.call.Call.{Call}
-use Rattle.callcontrol.specs.declared.draft.Slot.{Slot}
 use Rattle.callcontrol.specs.Draft.{Draft}
 use Rattle.callcontrol.specs.Rows.{rowFor}
-use Rattle.callcontrol.specs.Writing.{held, messagesIn, bytesOf, countOf}
-use Rattle.callcontrol.proofs.Laying.{size-messages, size-one, size-append, messages-small}
+use Rattle.callcontrol.specs.Writing.{messagesIn, bytesOf, countOf}
+use Rattle.callcontrol.proofs.Laying.{size-messages, size-append, messages-small}
 use Rattle.callcontrol.proofs.Verbs.{verbs}
 use Rattle.demands.specs.Demands.{Kept}
+use Rattle.demands.proofs.Bound.{slot, slot-size}
 use Rattle.demands.proofs.ByRow.{Row, is-row}
 use Rattle.demands.proofs.Situations.{At, up, broken, restoring, wait, transmit, receive, duplex, none, situated}
 use Rattle.console.specs.declared.route.Route.{Route}
@@ -33,15 +33,6 @@ use Rattle.console.proofs.Turns.{Everywhere, everywhere-does, none-take
 use Rattle.console.proofs.Everywhere.{part, part-size}
 
 -- ---- how many bytes a row writes, by its parts
-
-abbrev slot : Slot → ℕ
-slot Slot.Empty = 0
-slot (Slot.Holds m) = messageSize m
-
-slot-size : (s : Slot) → length (bytesOf (held s)) ≡ slot s
-unfolding bytesOf
-slot-size Slot.Empty = refl
-slot-size (Slot.Holds m) = size-one m
 
 cost : Draft → ℕ
 cost x =

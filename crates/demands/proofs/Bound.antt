@@ -39,7 +39,7 @@ use Rattle.demands.proofs.Turns.{byTests, Turned, passed, took, turned}
 
 -- ---- what a draft takes, a CONFIGURE aside
 
-abbrev slot : Slot → ℕ
+abbrev pub slot : Slot → ℕ
 slot Slot.Empty = 0
 slot (Slot.Holds m) = messageSize m
 
@@ -53,7 +53,7 @@ sizes : Unit {0}
 unfolding cost verbs Rows.releasing Rows.disconnected Rows.released Rows.confirmed countOf messageSize flatSize
 sizes = tt
 
-slot-size : (s : Slot) → length (bytesOf (held s)) ≡ slot s
+pub slot-size : (s : Slot) → length (bytesOf (held s)) ≡ slot s
 unfolding bytesOf
 slot-size Slot.Empty = refl
 slot-size (Slot.Holds m) = size-one m
