@@ -3,6 +3,7 @@ pub mod Answers
 pub mod Demands
 pub mod Determined
 pub mod Everywhere
+pub mod Heard
 pub mod Named
 pub mod Places
 pub mod Placing

@@ -1,11 +1,11 @@
--- What holds of every run of the console from eight fresh records, as types. proofs/Demands, Answering and Timers have a proof of each.
+-- What holds of every run of the console from eight fresh records, as types. proofs/Demands, Answering, Heard and Timers have a proof of each.
 use Prim.Native.Nat.{ℕ, _<_, _≤_}
 use mathlib.Core.Path.{_≡_}
 use mathlib.Core.Bool.{Bool, true, false, cond, not}
 use mathlib.Core.List.{List, [], _∷_, _++_}
 use mathlib.Core.Option.{some}
 use lib.Dec.{eqb}
-use lib.ListN.{length}
+use lib.ListN.{length, take}
 use lib.Seq.{sets}
 use Rattle.records.specs.declared.events.Event.{Event}
 use Rattle.records.specs.declared.events.Event.the-variants.{ReleaseRequest, Break, Resume, DCallRestore, Expiry}
@@ -20,13 +20,13 @@ use Rattle.callcontrol.specs.Writing.{bytesOf}
 use Rattle.demands.specs.Runs.{Turn, outcome, run, next, takenBy, takenIn, writtenIn, told, ends, isUDisconnect, isURelease}
 use Rattle.demands.specs.Clocks.{logIn, runningBy, runsBy}
 use Rattle.demands.specs.History.{planeByHistory}
-use Rattle.demands.specs.Demands.{quiet, oneCall, count}
+use Rattle.demands.specs.Demands.{Reads, quiet, oneCall, count}
 use Rattle.console.specs.declared.route.Aim.{Aim}
 use Rattle.console.specs.declared.route.Route.{Route}
 use Rattle.console.specs.Table.{callAt, freshTable, some?, tableSound}
 use Rattle.console.specs.Route.{aimOf, routeOf}
 use Rattle.console.specs.Console.{refusesAt, refuses, takes, writesFrom, nextOf}
-use Rattle.console.specs.Runs.{ConsoleTurn, consoleOutcome, consoleNext, consoleRun, lentBehind, wentTo, wentIn, framed}
+use Rattle.console.specs.Runs.{ConsoleTurn, consoleOutcome, consoleNext, consoleRun, lentBehind, wentTo, wentIn, framed, heardIn}
 
 -- the table after a run
 abbrev pub after : List ConsoleTurn → List Call
@@ -107,6 +107,16 @@ abbrev pub Messages : Type 0
 Messages =
     (calls : List Call) (t : ConsoleTurn) →
     (consoleOutcome calls t .count ≡ length (bytesOf (framed calls t))) × (consoleOutcome calls t .buffer ≡ sets (t .buffer) 0 (bytesOf (framed calls t)))
+
+-- over a run, what a host reads behind the records 0605 with k is what the step's run over the turns that went there writes
+abbrev pub MessagesAt : Type 0
+MessagesAt = (ts : List ConsoleTurn) (k : ℕ) → k < 8 → heardIn k freshTable ts ≡ writtenIn freshCall (turnsAt k ts)
+
+-- and it can read so: the bytes that a turn counts, of the buffer that it leaves, are record after record the messages of the places and those records
+abbrev pub ReadsBack : Type 0
+ReadsBack =
+    (ts : List ConsoleTurn) (t : ConsoleTurn) →
+    Reads (take (consoleOutcome (after ts) t .count) (consoleOutcome (after ts) t .buffer)) (framed (after ts) t)
 
 -- ---- demand 3, for each place
 

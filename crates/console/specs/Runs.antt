@@ -1,11 +1,13 @@
--- Any run of the console: the table after it, and the turns of the step that each place has in it.
+-- Any run of the console: the table after it, the turns of the step that each place has in it, and the messages that a host reads for each.
 use Prim.Native.Nat.{ℕ, suc, _+_}
-use mathlib.Core.Bool.{Bool, cond, _&&_}
+use mathlib.Core.Bool.{Bool, true, false, cond, _&&_}
 use mathlib.Core.List.{List, [], _∷_, _++_}
+use mathlib.Core.Option.{Option, none, some}
 use lib.Dec.{leb, eqb}
 use lib.ListN.{length, take, drop}
 use Rattle.records.specs.declared.events.Event.{Event}
 use Rattle.records.specs.declared.messages.Message.{Message}
+use Rattle.records.specs.declared.messages.Message.the-variants.{USetup, UConnect, UDisconnect, URelease, UInfo, UTxDemand, UTxCeased, UCallRestore, Stop, Start, Configure, Cancel, Place, SetupIndication, SetupConfirm, Proceed, Alert, Complete, ReleaseIndication, ReleaseConfirm, TxIndication, ModifyIndication}
 use Rattle.records.specs.Tables.{Read, taken, refused, read}
 use Rattle.records.specs.Events.{events}
 use Rattle.callcontrol.specs.declared.call.Call.{Call}
@@ -70,3 +72,47 @@ framedFrom k (c ∷ cs) turns = behind k (writtenIn c (turns k)) ++ framedFrom (
 
 unfoldable pub framed : List Call → ConsoleTurn → List Message
 framed calls t = framedFrom 0 calls (λ k. wentTo k calls t)
+
+-- the place that a message names: the record 0605 has one, and no other kind
+unfoldable pub namedBy : Message → Option ℕ
+namedBy (USetup a d q) = none
+namedBy (UConnect i) = none
+namedBy (UDisconnect i c) = none
+namedBy (URelease i) = none
+namedBy (UInfo i d) = none
+namedBy (UTxDemand i) = none
+namedBy (UTxCeased i) = none
+namedBy (UCallRestore i a q) = none
+namedBy (Stop n) = none
+namedBy (Start n o) = none
+namedBy (Configure plane) = none
+namedBy Cancel = none
+namedBy (Place at) = some at
+namedBy (SetupIndication i a d) = none
+namedBy (SetupConfirm i g) = none
+namedBy Proceed = none
+namedBy Alert = none
+namedBy (Complete g) = none
+namedBy (ReleaseIndication c) = none
+namedBy ReleaseConfirm = none
+namedBy (TxIndication x) = none
+namedBy (ModifyIndication d) = none
+
+-- whether what follows a message is for place k: as before, unless it names a place
+abbrev pub mineAfter : ℕ → Bool → Option ℕ → Bool
+mineAfter k mine none = mine
+mineAfter k mine (some j) = eqb j k
+
+abbrev pub isNone : Option ℕ → Bool
+isNone none = true
+isNone (some j) = false
+
+-- of some messages those for place k: behind a record 0605 with k, up to the next such record; and those in front of the first, if they are its own
+unfoldable pub ownFrom : ℕ → Bool → List Message → List Message
+ownFrom k mine [] = []
+ownFrom k mine (m ∷ ms) = cond (mine && isNone (namedBy m)) (m ∷ []) [] ++ ownFrom k (mineAfter k mine (namedBy m)) ms
+
+-- what a run writes for place k, as a host reads it: each turn anew, from no place
+unfoldable pub heardIn : ℕ → List Call → List ConsoleTurn → List Message
+heardIn k calls [] = []
+heardIn k calls (t ∷ ts) = ownFrom k false (framed calls t) ++ heardIn k (consoleNext calls t) ts
