@@ -126,38 +126,38 @@ lowest-is p (x ∷ calls) some = by (p x) refl some (λ rest. lowest-is p calls 
 
 -- ---- an event that is led to a place is of that place's call
 
-abbrev namedBy : Aim → Named
-namedBy Aim.Place = Named.NoCall
-namedBy Aim.Outgoing = Named.NoCall
-namedBy (Aim.Incoming i) = Named.NoCall
-namedBy (Aim.Held i) = Named.Id i
-namedBy Aim.Every = Named.NoCall
+abbrev callNamed : Aim → Named
+callNamed Aim.Place = Named.NoCall
+callNamed Aim.Outgoing = Named.NoCall
+callNamed (Aim.Incoming i) = Named.NoCall
+callNamed (Aim.Held i) = Named.Id i
+callNamed Aim.Every = Named.NoCall
 
-named-by : (e : Event) → namedIn e ≡ namedBy (aimOf e)
-named-by (Event.SetupRequest a d q) = refl
-named-by Event.SetupResponse = refl
-named-by Event.ReleaseRequest = refl
-named-by (Event.TxRequest k) = refl
-named-by (Event.ModifyRequest d) = refl
-named-by (Event.DCallProceeding i) = refl
-named-by (Event.DAlert i) = refl
-named-by (Event.DConnect i g d o) = refl
-named-by (Event.DConnectAcknowledge i g o) = refl
-named-by (Event.DSetup i a d) = refl
-named-by (Event.DInfo i r o d) = refl
-named-by (Event.DTxGranted i g) = refl
-named-by (Event.DTxCeased i) = refl
-named-by (Event.DTxInterrupt i g) = refl
-named-by (Event.DTxWait i) = refl
-named-by (Event.DTxContinue i k) = refl
-named-by (Event.DCallRestore i g r o) = refl
-named-by (Event.DDisconnect i) = refl
-named-by (Event.DRelease i) = refl
-named-by Event.ReportSent = refl
-named-by Event.ReportFailed = refl
-named-by Event.Break = refl
-named-by Event.Resume = refl
-named-by (Event.Expiry n) = refl
+call-named : (e : Event) → namedIn e ≡ callNamed (aimOf e)
+call-named (Event.SetupRequest a d q) = refl
+call-named Event.SetupResponse = refl
+call-named Event.ReleaseRequest = refl
+call-named (Event.TxRequest k) = refl
+call-named (Event.ModifyRequest d) = refl
+call-named (Event.DCallProceeding i) = refl
+call-named (Event.DAlert i) = refl
+call-named (Event.DConnect i g d o) = refl
+call-named (Event.DConnectAcknowledge i g o) = refl
+call-named (Event.DSetup i a d) = refl
+call-named (Event.DInfo i r o d) = refl
+call-named (Event.DTxGranted i g) = refl
+call-named (Event.DTxCeased i) = refl
+call-named (Event.DTxInterrupt i g) = refl
+call-named (Event.DTxWait i) = refl
+call-named (Event.DTxContinue i k) = refl
+call-named (Event.DCallRestore i g r o) = refl
+call-named (Event.DDisconnect i) = refl
+call-named (Event.DRelease i) = refl
+call-named Event.ReportSent = refl
+call-named Event.ReportFailed = refl
+call-named Event.Break = refl
+call-named Event.Resume = refl
+call-named (Event.Expiry n) = refl
 
 of-no-call : (c : Call) (e : Event) → namedIn e ≡ Named.NoCall → otherCall c e ≡ false
 unfolding otherCall
@@ -213,7 +213,7 @@ module _ (calls : List Call) (eight : length calls ≡ 8) (e : Event) (b : List 
   to-holder i n false true h g goes = rw goes (one-place calls e b (lowest (holds 0) calls) (of-awaiting _ e i n (lowest-is (holds 0) calls g)))
   to-holder i n false false h g goes = rw goes
 
-  by-aim : (a : Aim) (place : ℕ) → namedIn e ≡ namedBy a
+  by-aim : (a : Aim) (place : ℕ) → namedIn e ≡ callNamed a
       → routed (aimed a calls place) calls e b .answer
       ≡ cond (placeOver a place) 40
       (cond (idHeld a calls) 41 (cond (idAwaited a calls) 42 (cond (noIdlePlace a calls) 43 (cond (noneFits a calls) 5 (own (aimed a calls place))))))
@@ -248,4 +248,4 @@ answered calls t = by (came calls t)
     by (routes e r s h to o) =
         let passes = read-passes (t .event) e (reads (t .event)) h in
         rw (s, passes .0, passes .1, passes .2, h)
-        (ap (λ (o : ConsoleOutcome). o .answer) (routed-is calls t s h refl) ∙ by-aim calls (eight-of calls s) e (t .buffer) (aimOf e) (t .place) (named-by e))
+        (ap (λ (o : ConsoleOutcome). o .answer) (routed-is calls t s h refl) ∙ by-aim calls (eight-of calls s) e (t .buffer) (aimOf e) (t .place) (call-named e))
