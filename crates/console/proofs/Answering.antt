@@ -1,7 +1,7 @@
 -- An event that goes to one place gets the step's answer there; and the room that is to be lent is enough.
 use Prim.Native.Nat.{ℕ, _≤_}
 use mathlib.Core.Path.{_≡_, refl, sym, _∙_, ap}
-use mathlib.Core.Bool.{Bool, true, false}
+use mathlib.Core.Bool.{true}
 use mathlib.Core.List.{List}
 use native.Mathlib.Omega.{arith}
 use borrow.Author.Tests.{le-leb}
@@ -20,7 +20,7 @@ use Rattle.console.specs.declared.route.Aim.{Aim}
 use Rattle.console.specs.declared.route.Route.{Route}
 use Rattle.console.specs.Table.{callAt, tableSound}
 use Rattle.console.specs.Route.{aimOf, routeOf}
-use Rattle.console.specs.Console.{ConsoleOutcome, placed, atPlace, writesFrom, routed, consoleOf}
+use Rattle.console.specs.Console.{ConsoleOutcome, placed, atPlace, writesFrom, routed}
 use Rattle.console.specs.Runs.{ConsoleTurn, consoleOutcome, lentBehind}
 use Rattle.console.specs.Demands as claims
 use Rattle.console.proofs.Demands.{records, table-sound, good}

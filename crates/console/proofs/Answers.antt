@@ -1,5 +1,5 @@
 -- Every turn gets the first number that applies. An event that is led to a place is of that place's call, so the step's own 5 never comes.
-use Prim.Native.Nat.{ℕ, zero, suc, _+_, _-_, _<_, _≤_}
+use Prim.Native.Nat.{ℕ, suc, _+_, _-_, _≤_}
 use mathlib.Core.Path.{_≡_, refl, sym, _∙_, ap}
 use mathlib.Core.Bool.{Bool, true, false, cond, not, _&&_, _||_, and-false}
 use mathlib.Core.List.{List, [], _∷_}
@@ -8,8 +8,7 @@ use borrow.Author.Tests.{eq-eqb, eqb-true, le-leb, lt-leb, leb-true, lt-ltb, le-
 use lib.Dec.{leb, ltb, eqb}
 use lib.ListN.{length, drop, length-drop}
 use Rattle.records.specs.declared.events.Event.{Event}
-use Rattle.records.specs.Tables.{Read, taken, refused, read}
-use Rattle.records.specs.Events.{events}
+use Rattle.records.specs.Tables.{Read, taken, refused}
 use Rattle.callcontrol.specs.declared.call.Call.{Call}
 use Rattle.callcontrol.specs.declared.step.Answer.{Answer}
 use Rattle.callcontrol.specs.declared.step.Named.{Named}
@@ -24,10 +23,10 @@ use Rattle.demands.proofs.Turns.{byTests}
 use Rattle.console.specs.declared.route.Aim.{Aim}
 use Rattle.console.specs.declared.route.ConsoleAnswer.{ConsoleAnswer}
 use Rattle.console.specs.declared.route.Route.{Route}
-use Rattle.console.specs.Table.{callAt, holds, some?, tableSound, lowest}
+use Rattle.console.specs.Table.{callAt, holds, some?, lowest}
 use Rattle.console.specs.Route.{consoleNumber, aimOf, aimed, atNamed, atLowestIdle, outgoing, incoming, atHolder, routeOf}
-use Rattle.console.specs.Console.{ConsoleOutcome, atPlace, routed, takes, writes, writesFrom, headed, whenRead, refuses, refusesAt, consoleOf}
-use Rattle.console.specs.Runs.{ConsoleTurn, consoleOutcome, allFits}
+use Rattle.console.specs.Console.{ConsoleOutcome, atPlace, routed, takes, writes, headed}
+use Rattle.console.specs.Runs.{consoleOutcome, allFits}
 use Rattle.console.specs.Answers.{placeOver, idHeld, idAwaited, noIdlePlace, noneFits, noRowThere, transmitsThere, tooLong, consoleApplies, Answered}
 use Rattle.console.proofs.Answering.{placed-answer}
 use Rattle.console.proofs.Everywhere.{part-size}

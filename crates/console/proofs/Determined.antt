@@ -7,7 +7,7 @@ use lib.Dec.{lit<}
 use Rattle.callcontrol.specs.declared.step.Answer.{Answer}
 use Rattle.callcontrol.specs.declared.step.Stepped.{Stepped}
 use Rattle.callcontrol.specs.Call.{freshCall}
-use Rattle.callcontrol.specs.Step.{answerNumber, refusing, asOutcome, refusal}
+use Rattle.callcontrol.specs.Step.{answerNumber, refusing, refusal}
 use Rattle.callcontrol.proofs.Determined as step-determined
 use Rattle.console.specs.declared.route.ConsoleAnswer.{ConsoleAnswer}
 use Rattle.console.specs.declared.console.ConsoleStepped.{ConsoleStepped}

@@ -1,14 +1,14 @@
 -- An event at every place: what is counted and laid place by place is what is counted and laid for all.
-use Prim.Native.Nat.{ℕ, zero, suc, _+_, _-_, _*_, _≤_, _<_}
+use Prim.Native.Nat.{ℕ, suc, _+_, _-_, _≤_, _<_}
 use mathlib.Core.Path.{_≡_, refl, sym, _∙_, ap}
 use mathlib.Core.Bool.{Bool, true, false, cond, not, _||_}
 use mathlib.Core.List.{List, [], _∷_, _++_, append-nil, append-assoc}
 use native.Mathlib.Nat.{zero-add, add-zero}
 use native.Mathlib.Numerals.{add-one}
 use native.Mathlib.Omega.{arith}
-use borrow.Author.Tests.{eq-eqb, ne-eqb, le-leb, lt-leb, not-true, not-false, eqb-true}
+use borrow.Author.Tests.{ne-eqb, le-leb, lt-leb, not-true, not-false, eqb-true}
 use borrow.Rule.Slice.PartMut.{putMid}
-use lib.Dec.{leb, eqb, lit≤}
+use lib.Dec.{eqb, lit≤}
 use lib.ListN.{length, take, drop, set, length-append, length-drop, take-append-drop, drop-of-length-le}
 use lib.Seq.{sets, length-sets, take-all, take-suc, length-take-le, drop-cons, set-at, getD-at}
 use Rattle.records.specs.declared.events.Event.{Event}
@@ -26,7 +26,7 @@ use Rattle.console.specs.declared.console.Count.{Count}
 use Rattle.console.specs.Table.{noCall, callAt, some?}
 use Rattle.console.specs.Route.{aimOf}
 use Rattle.console.specs.Console.{behind, writes, placed, takes, writesFrom, nextOf, allNext, headed, counted, countedAll, LaidAll, ConsoleOutcome, everywhere, refuses}
-use Rattle.console.proofs.Placing.{bytesAt, taking, place-size, no-bytes, behind-some, row-carried, row-missing, carried-whole, placed-refuses, placed-takes, part-whole, put-whole, stored-part}
+use Rattle.console.proofs.Placing.{bytesAt, taking, place-size, no-bytes, row-carried, row-missing, carried-whole, placed-refuses, placed-takes, part-whole, put-whole, stored-part}
 
 -- ---- one place more
 

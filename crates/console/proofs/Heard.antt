@@ -3,21 +3,18 @@ use Prim.Native.Nat.{ℕ, zero, suc, _+_, _-_, _≤_, _<_}
 use mathlib.Core.Path.{_≡_, refl, sym, _∙_, ap}
 use mathlib.Core.Bool.{Bool, true, false, cond, not}
 use mathlib.Core.List.{List, [], _∷_, _++_, append-nil, append-assoc}
-use mathlib.Core.Option.{none, some}
+use mathlib.Core.Option.{none}
 use native.Mathlib.Omega.{arith}
-use borrow.Author.Tests.{eq-eqb, ne-eqb, le-leb, leb-true, eqb-true, eqb-false}
-use lib.Dec.{leb, eqb}
-use lib.ListN.{length, take, drop, length-drop, getD, List·getD-append}
-use lib.Seq.{sets, sets-eq, take-append-seam, drop-append-seam}
+use borrow.Author.Tests.{eq-eqb, ne-eqb, le-leb, leb-true, eqb-false}
+use lib.Dec.{eqb}
+use lib.ListN.{length, drop, length-drop, getD}
 use Rattle.records.specs.declared.events.Event.{Event}
 use Rattle.records.specs.declared.messages.Message.{Message}
 use Rattle.records.specs.declared.messages.Message.the-variants.{Stop, Configure, Cancel, Place}
-use Rattle.records.specs.Bytes.{number}
 use Rattle.records.specs.Letters.{within}
-use Rattle.records.specs.Bodies.{kindIn, allFit, flatFits}
-use Rattle.records.specs.Tables.{Table, taken, orRefuse, readAs, read, fine}
-use Rattle.records.specs.Messages.{messages, messageBytes}
-use Rattle.records.proofs.RoundTrip.{message-written-reads-back}
+use Rattle.records.specs.Bodies.{allFit, flatFits}
+use Rattle.records.specs.Tables.{fine}
+use Rattle.records.specs.Messages.{messages}
 use Rattle.callcontrol.specs.declared.call.State.{State}
 use Rattle.callcontrol.specs.declared.call.Path.{Path}
 use Rattle.callcontrol.specs.declared.call.Call.{Call}
@@ -29,11 +26,12 @@ use Rattle.callcontrol.specs.Rows.{rowFor}
 use Rattle.callcontrol.specs.Writing.{when, held, byNumber, starting, messagesIn, bytesOf}
 use Rattle.callcontrol.proofs.Verbs.{verbs}
 use Rattle.demands.specs.Runs.{Turn, outcome, next, run, writtenBy, writtenIn, every?}
-use Rattle.demands.specs.Demands.{Kept, Reads}
+use Rattle.demands.specs.Demands.{Kept}
 use Rattle.demands.proofs.ByRow.{Row, Cell, cell, row, no-row}
 use Rattle.demands.proofs.Cases.{by-plane, by-restart, by-grant, by-grantOrOff}
 use Rattle.demands.proofs.Demands.{step-in-range, step-keeps-sound}
 use Rattle.demands.proofs.Facts.{and, left, right}
+use Rattle.demands.proofs.ReadsBack.{read-after-read, stored}
 use Rattle.demands.proofs.Turns as step-turns
 use Rattle.console.specs.declared.route.Route.{Route}
 use Rattle.console.specs.Table.{callAt, freshTable}
@@ -287,46 +285,7 @@ framed-fine turns i (c ∷ cs) le kept =
     (behind-fine i (writtenIn c (turns i)) (omega arith) (written-fine c (turns i) (kept 0 (omega arith))))
     (framed-fine turns (suc i) cs (omega arith) (λ n lt. kept (suc n) (omega arith)))
 
--- ---- such messages read back
-
--- a record that is read has at least four bytes, and as many as its length says
-measured : (t : Table) (s : List ℕ) (v : t .Value) → read t s ≡ taken v → (4 ≤ length s) × (number 2 s 0 ≡ length s)
-unfolding read kindIn
-measured t s v h = long (leb 4 (length s)) (eqb (number 2 s 0) (length s)) refl refl h
-  where
-    long : (a b : Bool) → leb 4 (length s) ≡ a → eqb (number 2 s 0) (length s) ≡ b
-        → orRefuse 2 (cond a (cond b (some (number 2 s 2)) none) none) (λ n. readAs t n s) ≡ taken v → (4 ≤ length s) × (number 2 s 0 ≡ length s)
-    long false b p q r = let z : _≡_ {A = ℕ} 0 1 = cc in absurd (omega arith)
-    long true false p q r = let z : _≡_ {A = ℕ} 0 1 = cc in absurd (omega arith)
-    long true true p q r = (leb-true 4 (length s) p, eqb-true (number 2 s 0) (length s) q)
-
--- so the length at the front of some bytes is that of the record there
-in-front : (s rest : List ℕ) → 4 ≤ length s → number 2 (s ++ rest) 0 ≡ number 2 s 0
-unfolding number
-in-front s rest h = rw (List·getD-append s rest 0 0 (omega arith), List·getD-append s rest 0 1 (omega arith))
-
-one-reads : (m : Message) → fine messages m ≡ true → read messages (messageBytes m) ≡ taken m
-unfolding messageBytes
-one-reads m h = message-written-reads-back m h
-
-read-after-read : (ms : List Message) → Fine ms → Reads (bytesOf ms) ms
-unfolding bytesOf
-read-after-read [] h = refl
-read-after-read (m ∷ ms) h = rw (length-is, take-append-seam s rest, drop-append-seam s rest) (reads-m, read-after-read ms (right (fine messages m) _ h))
-  where
-    s : List ℕ
-    s = messageBytes m
-
-    rest : List ℕ
-    rest = bytesOf ms
-
-    reads-m : read messages s ≡ taken m
-    reads-m = one-reads m (left _ _ h)
-
-    length-is : number 2 (s ++ rest) 0 ≡ length s
-    length-is = in-front s rest (measured messages s m reads-m .0) ∙ measured messages s m reads-m .1
-
--- ---- and the bytes that a turn counts are in the buffer
+-- ---- the bytes that a turn counts are in the buffer
 
 headed-fits : (n l : ℕ) (z : Bool) → eqb n 0 ≡ z → n ≤ l - 5 → cond z 0 (5 + n) ≤ l
 headed-fits n l true e h = omega arith
@@ -357,10 +316,6 @@ turn-fits calls t = by (came calls t)
     by (routes e (Route.To j) s h r o) = rw o (place-fits j (callAt calls j) e (t .buffer))
     by (routes e Route.Everywhere s h r o) = rw o (all e (everywhere-does calls e (t .buffer)))
     by (routes e (Route.Refused a) s h r o) = rw o (omega arith)
-
--- the bytes that are stored are at the front of the buffer
-stored : (out buffer : List ℕ) → length out ≤ length buffer → take (length out) (sets buffer 0 out) ≡ out
-stored out buffer h = rw (sets-eq out buffer 0 (omega arith), take-append-seam)
 
 pub reads-back : claims.ReadsBack
 unfolding framed

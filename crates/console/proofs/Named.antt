@@ -1,6 +1,6 @@
 -- What a row does to a call's identifier: the call is gone, or keeps it, or begins, or takes the one that the network names.
 use Prim.Native.Nat.{ℕ}
-use mathlib.Core.Path.{_≡_, refl, sym, _∙_, ap}
+use mathlib.Core.Path.{_≡_, refl, _∙_, ap}
 use mathlib.Core.Bool.{Bool, true, false, cond, _||_}
 use lib.Dec.{eqb}
 use Rattle.records.specs.declared.events.Event.{Event}

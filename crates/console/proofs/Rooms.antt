@@ -3,10 +3,9 @@ use Prim.Native.Nat.{ℕ, suc, _+_, _*_, _≤_, _<_}
 use mathlib.Core.Path.{_≡_, refl, sym, _∙_, ap}
 use mathlib.Core.Bool.{Bool, true, false, cond, not}
 use mathlib.Core.List.{List, [], _∷_}
-use native.Mathlib.Nat.{zero-add, add-zero}
 use native.Mathlib.Omega.{arith}
 use borrow.Author.Tests.{leb-true}
-use lib.Dec.{leb, eqb, lit≤}
+use lib.Dec.{leb, eqb}
 use lib.ListN.{length, drop}
 use Rattle.records.specs.declared.events.Event.{Event}
 use Rattle.records.specs.Messages.{messageSize}
@@ -25,7 +24,7 @@ use Rattle.demands.proofs.ByRow.{Row, is-row}
 use Rattle.demands.proofs.Situations.{At, up, broken, restoring, wait, transmit, receive, duplex, none, situated}
 use Rattle.console.specs.declared.route.Route.{Route}
 use Rattle.console.specs.Table.{callAt, tableSound}
-use Rattle.console.specs.Console.{ConsoleOutcome, takes, writes, placed, atPlace, everywhere, writesFrom, headed, consoleOf}
+use Rattle.console.specs.Console.{ConsoleOutcome, takes, writes, placed, atPlace, everywhere, writesFrom, consoleOf}
 use Rattle.console.specs.Runs.{ConsoleTurn, consoleOutcome}
 use Rattle.console.proofs.Placing.{bytesAt, Decides, decides, placed-refuses, placed-takes}
 use Rattle.console.proofs.Tables.{eight-of}

@@ -1,6 +1,6 @@
 -- A route leads to one of the eight places, or everywhere for an event that is meant for every place, or is refused with a number of its own.
 use Prim.Native.Nat.{ℕ, _<_, _≤_}
-use mathlib.Core.Path.{_≡_, refl, sym}
+use mathlib.Core.Path.{_≡_, refl}
 use mathlib.Core.Bool.{Bool, true, false, cond}
 use mathlib.Core.List.{List}
 use native.Mathlib.Omega.{arith}
@@ -13,7 +13,7 @@ use Rattle.console.specs.declared.route.Aim.{Aim}
 use Rattle.console.specs.declared.route.ConsoleAnswer.{ConsoleAnswer}
 use Rattle.console.specs.declared.route.Route.{Route}
 use Rattle.console.specs.Table.{holds, lowest}
-use Rattle.console.specs.Route.{consoleNumber, aimOf, orElse, atNamed, atLowestIdle, outgoing, incoming, atHolder, aimed, routeOf}
+use Rattle.console.specs.Route.{consoleNumber, aimOf, atNamed, atLowestIdle, outgoing, incoming, atHolder, aimed, routeOf}
 
 -- what a route says of itself and of the aim that it comes from
 abbrev Leads : Aim → Route → Type 0

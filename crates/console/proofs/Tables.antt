@@ -1,7 +1,7 @@
 -- What a sound table says of each place.
 use Prim.Native.Nat.{ℕ, zero, suc, _<_}
-use mathlib.Core.Path.{_≡_, refl, sym, _∙_}
-use mathlib.Core.Bool.{Bool, true, false, cond, not, _&&_, _||_}
+use mathlib.Core.Path.{_≡_, refl}
+use mathlib.Core.Bool.{Bool, true, false, _&&_, _||_}
 use mathlib.Core.List.{List, [], _∷_}
 use native.Mathlib.Omega.{arith}
 use borrow.Author.Tests.{eqb-true}
@@ -10,7 +10,7 @@ use lib.ListN.{length}
 use Rattle.callcontrol.specs.declared.call.Call.{Call}
 use Rattle.callcontrol.specs.Call.{sound}
 use Rattle.demands.proofs.Facts.{left, right}
-use Rattle.console.specs.Table.{callAt, alike, some?, every?, apart, tableSound}
+use Rattle.console.specs.Table.{callAt, some?, every?, apart, tableSound}
 
 every-at : (p : Call → Bool) (calls : List Call) (k : ℕ) → k < length calls → every? p calls ≡ true → p (callAt calls k) ≡ true
 every-at p (c ∷ calls) zero lt h = left (p c) (every? p calls) h

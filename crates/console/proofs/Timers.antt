@@ -1,12 +1,9 @@
 -- Request 10 at each place: from the step's claims over the turns that the place has.
-use Prim.Native.Nat.{ℕ, _<_, _≤_}
+use Prim.Native.Nat.{ℕ, _<_}
 use mathlib.Core.Path.{_≡_, refl, sym, _∙_, ap}
-use mathlib.Core.Bool.{Bool, true, false, cond}
+use mathlib.Core.Bool.{Bool, cond}
 use mathlib.Core.List.{List, [], _∷_, _++_}
-use mathlib.Core.Option.{some}
 use borrow.Author.Tests.{eq-eqb, lt-ltb}
-use lib.Dec.{eqb}
-use lib.ListN.{length}
 use native.Mathlib.Omega.{arith}
 use Rattle.records.specs.declared.events.Event.{Event}
 use Rattle.records.specs.declared.messages.Message.{Message}
@@ -21,9 +18,9 @@ use Rattle.demands.proofs.Turns.{accepts}
 use Rattle.demands.proofs.Demands as step-demands
 use Rattle.console.specs.declared.route.Aim.{Aim}
 use Rattle.console.specs.declared.route.Route.{Route}
-use Rattle.console.specs.Table.{callAt, freshTable, tableSound}
+use Rattle.console.specs.Table.{freshTable}
 use Rattle.console.specs.Route.{aimOf, atNamed, routeOf}
-use Rattle.console.specs.Console.{ConsoleOutcome, refusesAt}
+use Rattle.console.specs.Console.{refusesAt}
 use Rattle.console.specs.Runs.{ConsoleTurn, consoleOutcome, consoleRun, lentBehind, wentTo, wentIn}
 use Rattle.console.specs.Demands as claims
 use Rattle.console.proofs.Answering.{answers-in-run, behind-five}

@@ -1,6 +1,6 @@
 -- What a turn of the console does to the table: nothing, or the step of one place, or the event at every place that takes it.
 use Prim.Native.Nat.{ℕ, zero, suc, _<_}
-use mathlib.Core.Path.{_≡_, refl, sym, _∙_, ap}
+use mathlib.Core.Path.{_≡_, refl, _∙_, ap}
 use mathlib.Core.Bool.{Bool, true, false, cond}
 use mathlib.Core.List.{List, [], _∷_, _++_}
 use native.Mathlib.Omega.{arith}
@@ -14,7 +14,7 @@ use Rattle.callcontrol.specs.Writing.{bytesOf}
 use Rattle.console.specs.declared.route.Aim.{Aim}
 use Rattle.console.specs.declared.route.Route.{Route}
 use Rattle.console.specs.Table.{callAt, some?, tableSound}
-use Rattle.console.specs.Route.{aimOf, routeOf, consoleNumber}
+use Rattle.console.specs.Route.{aimOf, routeOf}
 use Rattle.console.specs.Console as console
 use Rattle.console.specs.Console.{ConsoleOutcome, placed, takes, writesFrom, nextOf, allNext, everywhere, atPlace, routed, consoleOf, refusesAt, refuses}
 use Rattle.console.specs.Runs.{ConsoleTurn, consoleOutcome, consoleNext, consoleRun, allFits}

@@ -4,32 +4,30 @@ use mathlib.Core.Path.{_≡_, refl, sym, _∙_, ap}
 use mathlib.Core.Bool.{Bool, true, false, cond, not, _&&_, _||_}
 use mathlib.Core.List.{List, [], _∷_}
 use native.Mathlib.Omega.{arith}
-use borrow.Author.Tests.{eq-eqb, ne-eqb, lt-ltb, le-ltb, ltb-true, ltb-false, eqb-true, eqb-false, leb-true}
+use borrow.Author.Tests.{eq-eqb, ltb-true, ltb-false, eqb-true, eqb-false, leb-true}
 use lib.Dec.{leb, ltb, eqb}
 use lib.ListN.{length, drop, set, length-set}
 use lib.Seq.{getD-set-same, getD-set-other}
 use Rattle.records.specs.declared.events.Event.{Event}
-use Rattle.records.specs.Tables.{Read, taken, refused, read}
-use Rattle.records.specs.Events.{events}
+use Rattle.records.specs.Tables.{taken}
 use Rattle.callcontrol.specs.declared.call.Call.{Call}
-use Rattle.callcontrol.specs.Call.{freshCall, isIdle, asFresh, inRange, timersAgree, placesAgree, sound, _⇒_}
+use Rattle.callcontrol.specs.Call.{freshCall, isIdle, asFresh, sound, _⇒_}
 use Rattle.callcontrol.specs.Rows.{rowFor}
-use Rattle.callcontrol.specs.Step.{Outcome, decided}
+use Rattle.callcontrol.specs.Step.{decided}
 use Rattle.callcontrol.specs.declared.step.Answer.{Answer}
 use Rattle.demands.specs.Runs.{Turn, outcome, next, run}
 use Rattle.demands.specs.Demands.{Kept}
-use Rattle.demands.proofs.Facts.{left, right, and, is-not}
+use Rattle.demands.proofs.Facts.{left, right, is-not}
 use Rattle.demands.proofs.Demands.{fresh-is-sound, step-keeps-sound}
 use Rattle.console.specs.declared.route.Aim.{Aim}
 use Rattle.console.specs.declared.route.ConsoleAnswer.{ConsoleAnswer}
 use Rattle.console.specs.declared.route.Route.{Route}
 use Rattle.console.specs.Table.{noCall, callAt, freshTable, holds, alike, some?, every?, apart, tableSound, lowest}
-use Rattle.console.specs.Route.{aimOf, orElse, atNamed, atLowestIdle, outgoing, incoming, atHolder, aimed, routeOf}
-use Rattle.console.specs.Console as console
-use Rattle.console.specs.Console.{placed, takes, nextOf, allNext, everywhere, atPlace, routed, consoleOf, refuses}
-use Rattle.console.specs.Runs.{ConsoleTurn, consoleOutcome, consoleNext, consoleRun, wentTo}
+use Rattle.console.specs.Route.{aimOf, orElse, atLowestIdle, outgoing, incoming, atHolder, aimed, routeOf}
+use Rattle.console.specs.Console.{placed, takes, nextOf, refuses}
+use Rattle.console.specs.Runs.{ConsoleTurn, consoleNext, consoleRun, wentTo}
 use Rattle.console.proofs.Placing.{Decides, decides}
-use Rattle.console.proofs.Routing.{to-place, to-all}
+use Rattle.console.proofs.Routing.{to-place}
 use Rattle.console.proofs.Named.{Names, gone, kept, begun, brought, named, names}
 use Rattle.console.proofs.Everywhere.{next-length}
 use Rattle.console.proofs.Turns.{Turned, turned, stays, goes-on, all-go, next-at}

@@ -3,7 +3,7 @@
 use Prim.Native.Nat.{ℕ, zero, suc, _+_, _≤_, _<_}
 use mathlib.Core.Path.{_≡_, refl, sym, _∙_, ap}
 use mathlib.Core.Bool.{Bool, true, false, cond, _&&_, and-false}
-use mathlib.Core.List.{List, [], _∷_, _++_, append-nil}
+use mathlib.Core.List.{List, [], _∷_, append-nil}
 use mathlib.Core.Logic.{_⊎_, inl, inr}
 use native.Mathlib.Nat.{zero-add, add-zero}
 use native.Mathlib.Omega.{arith}
@@ -26,7 +26,7 @@ use Rattle.console.specs.declared.route.Aim.{Aim}
 use Rattle.console.specs.declared.route.Route.{Route}
 use Rattle.console.specs.Table.{noCall, callAt, some?, tableSound}
 use Rattle.console.specs.Route.{aimOf, routeOf}
-use Rattle.console.specs.Console.{ConsoleOutcome, behind, writes, placed, takes, writesFrom, nextOf, allNext, everywhere, atPlace, routed, refusesAt}
+use Rattle.console.specs.Console.{ConsoleOutcome, behind, writes, placed, takes, writesFrom, allNext, everywhere, atPlace, refusesAt}
 use Rattle.console.specs.Runs.{ConsoleTurn, consoleOutcome, consoleNext, lentBehind, allFits, goes, wentTo, framedFrom, framed}
 use Rattle.console.proofs.Placing.{taking, Decides, decides, row-carried, carried-whole, placed-refuses, placed-takes}
 use Rattle.console.proofs.Everywhere.{part, part-room, done, done-more, done-within, ours, silent}

@@ -14,7 +14,6 @@ use Rattle.callcontrol.specs.declared.call.Call.{Call}
 use Rattle.callcontrol.specs.Rows.{rowFor}
 use Rattle.callcontrol.specs.Writing.{messagesIn, bytesOf}
 use Rattle.callcontrol.specs.Step.{Outcome, refusal, decided}
-use Rattle.console.specs.declared.route.ConsoleAnswer.{ConsoleAnswer}
 use Rattle.console.specs.declared.route.Route.{Route}
 use Rattle.console.specs.declared.console.ConsoleStepped.{ConsoleStepped}
 use Rattle.console.specs.declared.console.Count.{Count}

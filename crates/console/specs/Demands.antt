@@ -15,9 +15,9 @@ use Rattle.records.specs.Events.{events}
 use Rattle.callcontrol.specs.declared.call.State.{State}
 use Rattle.callcontrol.specs.declared.call.Path.{Path}
 use Rattle.callcontrol.specs.declared.call.Call.{Call}
-use Rattle.callcontrol.specs.Call.{freshCall, sound, isIdle, runs, T310}
+use Rattle.callcontrol.specs.Call.{freshCall, isIdle, runs, T310}
 use Rattle.callcontrol.specs.Writing.{bytesOf}
-use Rattle.demands.specs.Runs.{Turn, outcome, run, next, takenBy, takenIn, writtenIn, told, ends, isUDisconnect, isURelease}
+use Rattle.demands.specs.Runs.{Turn, outcome, run, takenBy, takenIn, writtenIn, told, ends, isUDisconnect, isURelease}
 use Rattle.demands.specs.Clocks.{logIn, runningBy, runsBy}
 use Rattle.demands.specs.History.{planeByHistory}
 use Rattle.demands.specs.Demands.{Reads, quiet, oneCall, count}

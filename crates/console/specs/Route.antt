@@ -2,7 +2,7 @@
 use Prim.Native.Nat.{ℕ}
 use mathlib.Core.Bool.{cond}
 use mathlib.Core.List.{List}
-use lib.Dec.{leb, ltb}
+use lib.Dec.{ltb}
 use Rattle.records.specs.declared.events.Event.{Event}
 use Rattle.records.specs.declared.events.Event.the-variants.{SetupRequest, SetupResponse, ReleaseRequest, TxRequest, ModifyRequest, DCallProceeding, DAlert, DConnect, DConnectAcknowledge, DSetup, DInfo, DTxGranted, DTxCeased, DTxInterrupt, DTxWait, DTxContinue, DCallRestore, DDisconnect, DRelease, ReportSent, ReportFailed, Break, Resume, Expiry}
 use Rattle.callcontrol.specs.declared.call.Call.{Call}

@@ -44,7 +44,7 @@ one-reads : (m : Message) → fine messages m ≡ true → read messages (messag
 unfolding messageBytes
 one-reads m h = message-written-reads-back m h
 
-read-after-read : (ms : List Message) → every? (λ m. fine messages m) ms ≡ true → Reads (bytesOf ms) ms
+pub read-after-read : (ms : List Message) → every? (λ m. fine messages m) ms ≡ true → Reads (bytesOf ms) ms
 unfolding bytesOf
 read-after-read [] h = refl
 read-after-read (m ∷ ms) h = rw (length-is, take-append-seam s rest, drop-append-seam s rest) (reads-m, read-after-read ms (right (fine messages m) _ h))
@@ -62,15 +62,15 @@ read-after-read (m ∷ ms) h = rw (length-is, take-append-seam s rest, drop-appe
     length-is = in-front s rest (measured messages s m reads-m .0) ∙ measured messages s m reads-m .1
 
 -- the bytes that are stored are at the front of the buffer
-stored : (out buffer : List ℕ) → leb (length out) (length buffer) ≡ true → take (length out) (sets buffer 0 out) ≡ out
-stored out buffer h = rw (sets-eq out buffer 0 (omega (arith, leb-true (length out) (length buffer) h)), take-append-seam)
+pub stored : (out buffer : List ℕ) → length out ≤ length buffer → take (length out) (sets buffer 0 out) ≡ out
+stored out buffer h = rw (sets-eq out buffer 0 (omega arith), take-append-seam)
 
 counted : (c : Call) (t : Turn) → Turned c t → every? (λ m. fine messages m) (writtenBy c t) ≡ true
     → Reads (take (outcome c t .count) (outcome c t .buffer)) (writtenBy c t)
 unfolding writtenBy
 counted c t (passed p) h = rw (p .gives, p .takes)
 counted c t (took e a) h =
-    rw (a .gives, a .takes, stored (bytesOf (messagesIn (rowFor c e))) (t .buffer) (a .room)) (read-after-read (messagesIn (rowFor c e)) (rw (a .takes) at h))
+    rw (a .gives, a .takes, stored (bytesOf (messagesIn (rowFor c e))) (t .buffer) (leb-true _ _ (a .room))) (read-after-read (messagesIn (rowFor c e)) (rw (a .takes) at h))
 
 pub reads-back : ReadsBack
 reads-back c t k = counted c t (turned c t) (step-in-range c t k)
