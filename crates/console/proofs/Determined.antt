@@ -1,9 +1,11 @@
--- The promise of the console's step leaves no choice: two results that it allows are equal, and so are the buffers that they leave.
+-- The promise of the console's step leaves no choice: two results that it allows are equal, and so are the buffers that they leave. So it is of the
+-- step on a lent table, and the tables are equal too.
 use Prim.Native.Nat.{ℕ, _<_}
 use mathlib.Core.Path.{_≡_, refl, sym, _∙_, ap}
 use mathlib.Core.List.{List, []}
 use native.Mathlib.Omega.{arith}
 use lib.Dec.{lit<}
+use Rattle.callcontrol.specs.declared.call.Call.{Call}
 use Rattle.callcontrol.specs.declared.step.Answer.{Answer}
 use Rattle.callcontrol.specs.declared.step.Stepped.{Stepped}
 use Rattle.callcontrol.specs.Call.{freshCall}
@@ -11,8 +13,10 @@ use Rattle.callcontrol.specs.Step.{answerNumber, refusing, refusal}
 use Rattle.callcontrol.proofs.Determined as step-determined
 use Rattle.console.specs.declared.route.ConsoleAnswer.{ConsoleAnswer}
 use Rattle.console.specs.declared.console.ConsoleStepped.{ConsoleStepped}
+use Rattle.console.specs.declared.lent.ConsoleTold.{ConsoleTold}
 use Rattle.console.specs.Route.{consoleNumber}
 use Rattle.console.specs.Console.{ConsoleOutcome, asConsole}
+use Rattle.console.specs.Lent.{asTold}
 
 -- no two of the step's answers have one number, and none has a number of the console's own
 step-same : (a b : Answer) → answerNumber a ≡ answerNumber b → a ≡ b
@@ -67,3 +71,11 @@ console-step o r₁ r₂ b₁ b₂ e₁ e₂ =
     let count = ap (λ (w : ConsoleOutcome). w .count) e in
     let calls = ap (λ (w : ConsoleOutcome). w .calls) e in
     (λ i. record { answer = answer i; place = place i; count = count i; calls = calls i }, ap (λ (w : ConsoleOutcome). w .buffer) e)
+
+pub console-step-lent : (o : ConsoleOutcome) (r₁ r₂ : ConsoleTold) (t₁ t₂ : List Call) (b₁ b₂ : List ℕ) → asTold r₁ t₁ b₁ ≡ o → asTold r₂ t₂ b₂ ≡ o → (r₁ ≡ r₂) × ((t₁ ≡ t₂) × (b₁ ≡ b₂))
+console-step-lent o r₁ r₂ t₁ t₂ b₁ b₂ e₁ e₂ =
+    let e : asTold r₁ t₁ b₁ ≡ asTold r₂ t₂ b₂ = e₁ ∙ sym e₂ in
+    let answer = same (r₁ .answer) (r₂ .answer) (ap (λ (w : ConsoleOutcome). w .answer) e) in
+    let place = ap (λ (w : ConsoleOutcome). w .place) e in
+    let count = ap (λ (w : ConsoleOutcome). w .count) e in
+    (λ i. record { answer = answer i; place = place i; count = count i }, (ap (λ (w : ConsoleOutcome). w .calls) e, ap (λ (w : ConsoleOutcome). w .buffer) e))

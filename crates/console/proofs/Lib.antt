@@ -1,7 +1,9 @@
+pub mod Again
 pub mod Answering
 pub mod Answers
 pub mod Demands
 pub mod Determined
+pub mod Eight
 pub mod Everywhere
 pub mod Heard
 pub mod Named
@@ -9,6 +11,7 @@ pub mod Places
 pub mod Placing
 pub mod Rooms
 pub mod Routing
+pub mod Rows
 pub mod Tables
 pub mod Timers
 pub mod Turns
