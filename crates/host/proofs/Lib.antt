@@ -9,4 +9,6 @@ pub mod Packing
 pub mod Runs
 pub mod SerialLine
 pub mod Small
+pub mod TablePacking
+pub mod TableRuns
 pub mod Tables

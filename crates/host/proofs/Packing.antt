@@ -3,6 +3,7 @@ use Prim.Native.Nat.{ℕ, zero, suc, _+_, _*_, _/_, _%_, _≤_, _<_}
 use mathlib.Core.Path.{_≡_, refl, sym}
 use mathlib.Core.Bool.{Bool, true, false}
 use mathlib.Core.List.{List, [], _∷_}
+use mathlib.Core.Option.{some}
 use native.Mathlib.Omega.{arith}
 use borrow.Author.Tests.{leb-true, eqb-true}
 use lib.Dec.{leb, eqb}
@@ -92,7 +93,7 @@ bytes-number (suc w) at s small =
 
 -- ---- the laws
 
-is-record : (c : Call) → isRecord (packed c) ≡ true
+pub is-record : (c : Call) → isRecord (packed c) ≡ true
 unfolding isRecord packed names settings running bytes
 is-record c = simp (state-small, path-small, flag-small)
 
@@ -112,6 +113,11 @@ sound-is-unpacked c ok seven =
     let id : leb (c .id) 16383 ≡ true = search (left, right) depth 20 in
     let address : leb (c .address) 16777215 ≡ true = search (left, right) depth 20 in
     packed-is-unpacked c (record { id = omega (arith, leb-true (c .id) 16383 id); address = omega (arith, leb-true (c .address) 16777215 address); timers = seven })
+
+-- bytes that are unpacked as a record hold it
+pub unpacked-is-held : (c : Call) → unpacked (packed c) ≡ some c → held (packed c) ≡ c
+unfolding unpacked
+unpacked-is-held c is = let same : some (held (packed c)) ≡ some c = rw (is-record c) at is in cc
 
 pub held-is-packed : HeldIsPacked
 unfolding isRecord held packed names settings running

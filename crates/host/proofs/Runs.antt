@@ -22,12 +22,9 @@ use Rattle.host.specs.Entries.{Left, stepped, freshened, hostStep}
 use Rattle.host.specs.Runs.{hostRun, after, RunIsPacked, TurnIsStep, TurnReadsBack, PlaneByHistory}
 use Rattle.host.proofs.Packing.{sound-is-unpacked}
 use Rattle.host.proofs.Small.{step-small}
+use Rattle.host.proofs.Tables.{packed-length}
 
--- a record is packed into 21 bytes, and over 21 bytes it leaves none of them
-packed-length : (c : Call) → length (packed c) ≡ 21
-unfolding packed names settings running bytes
-packed-length c = refl
-
+-- over 21 bytes a packed record leaves none of them
 nothing-left : (s : List ℕ) → length s ≡ 21 → drop 21 s ≡ []
 nothing-left s h = drop-of-length-le s {i = 21} (omega arith)
 

@@ -20,7 +20,7 @@ use Rattle.host.specs.Table.{isTable, heldTable, packedAt, packedInto, T
 
 -- ---- a record into its part of the table
 
-packed-length : (c : Call) → length (packed c) ≡ 21
+pub packed-length : (c : Call) → length (packed c) ≡ 21
 unfolding packed names settings running bytes
 packed-length c = refl
 
