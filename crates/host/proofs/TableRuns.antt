@@ -14,12 +14,13 @@ use Rattle.console.specs.Console.{ConsoleOutcome}
 use Rattle.console.specs.Runs.{ConsoleTurn, consoleOutcome, consoleNext, consoleRun}
 use Rattle.console.proofs.Answering.{enough}
 use Rattle.console.proofs.Demands.{records, messages, good, never-unsound, refuses-whole}
+use Rattle.console.proofs.Heard.{reads-back}
 use Rattle.console.proofs.Rooms.{console-few}
 use Rattle.console.proofs.Twins.{Good, good-fresh, good-next}
 use Rattle.host.specs.Packing.{packed}
 use Rattle.host.specs.Entries.{word}
 use Rattle.host.specs.Table.{packedInto, TableLeft, consoleLeft, consoleFreshened, consoleHostStep}
-use Rattle.host.specs.TableRuns.{tableTurn, tableRun, answered, TableIsPacked, PlaceIsPacked, TurnIsConsole, TurnNumbers, TurnMessages, TableNeverUnsound, TableEnough}
+use Rattle.host.specs.TableRuns.{tableTurn, tableRun, answered, TableIsPacked, PlaceIsPacked, TurnIsConsole, TurnNumbers, TurnMessages, TableReadsBack, TableNeverUnsound, TableEnough}
 use Rattle.host.proofs.Packing.{items-drop, sound-is-unpacked}
 use Rattle.host.proofs.Small.{console-near}
 use Rattle.host.proofs.TablePacking.{part-at, into-length, over-any, packed-is-table, holds}
@@ -86,6 +87,9 @@ pub turn-messages : TurnMessages
 turn-messages s ts t h =
     let m = messages (consoleRun freshTable ts) t in
     (turn-numbers s ts t h .2 ∙ m .0, ap (λ (l : TableLeft). l .out) (turn-is-console s ts t h) ∙ m .1)
+
+pub table-reads-back : TableReadsBack
+table-reads-back s ts t h = rw (turn-numbers s ts t h .2, ap (λ (l : TableLeft). l .out) (turn-is-console s ts t h)) (reads-back ts t)
 
 pub table-never-unsound : TableNeverUnsound
 table-never-unsound s ts t h one = never-unsound ts t (sym (turn-numbers s ts t h .0) ∙ one)

@@ -3,11 +3,12 @@
 use Prim.Native.Nat.{ℕ, _*_, _/_, _%_, _≤_, _<_}
 use mathlib.Core.Path.{_≡_}
 use mathlib.Core.List.{List, [], _∷_}
-use lib.ListN.{length}
+use lib.ListN.{length, take}
 use lib.Seq.{sets}
 use Rattle.callcontrol.specs.Call.{freshCall}
 use Rattle.callcontrol.specs.Writing.{bytesOf}
 use Rattle.demands.specs.Runs.{run}
+use Rattle.demands.specs.Demands.{Reads}
 use Rattle.console.specs.Table.{freshTable}
 use Rattle.console.specs.Console.{ConsoleOutcome}
 use Rattle.console.specs.Runs.{ConsoleTurn, consoleOutcome, consoleRun, framed}
@@ -63,6 +64,13 @@ TurnMessages =
     length s ≡ 168 →
     (tableTurn (tableAfter s ts) t .result % 65536 ≡ length (bytesOf (framed (consoleRun freshTable ts) t)))
     × (tableTurn (tableAfter s ts) t .out ≡ sets (t .buffer) 0 (bytesOf (framed (consoleRun freshTable ts) t)))
+
+-- and they read so, record after record
+abbrev pub TableReadsBack : Type 0
+TableReadsBack =
+    (s : List ℕ) (ts : List ConsoleTurn) (t : ConsoleTurn) →
+    length s ≡ 168 →
+    Reads (take (tableTurn (tableAfter s ts) t .result % 65536) (tableTurn (tableAfter s ts) t .out)) (framed (consoleRun freshTable ts) t)
 
 -- 1 never comes back
 abbrev pub TableNeverUnsound : Type 0
