@@ -1,4 +1,3 @@
-pub mod Again
 pub mod Answering
 pub mod Answers
 pub mod Demands
@@ -6,15 +5,16 @@ pub mod Determined
 pub mod Eight
 pub mod Everywhere
 pub mod Heard
+pub mod LentAgain
 pub mod Named
 pub mod Places
 pub mod Placing
 pub mod Rooms
 pub mod Routing
-pub mod Rows
 pub mod Tables
 pub mod Timers
 pub mod Turns
 pub mod Twins
+pub mod Walking
 pub mod Went
 pub mod Witness

@@ -48,7 +48,7 @@ use denote.Triple.Walked.{says, Stays, stay-none, stay-dropped, gave-slice, walk
 use denote.Exit.{yes}
 use Rattle.callcontrol.specs.declared.call.Call.{Call}
 use Rattle.console.proofs.Eight.{is8, unheld}
-use Rattle.console.proofs.Rows.{unless}
+use Rattle.console.proofs.Walking.{unless}
 use Rattle.callcontrol.proofs.call.Call as T
 use Rattle.callcontrol.proofs.call.Call.Laws as T′
 use Rattle.console.specs.declared.console.ConsoleStepped.{ConsoleStepped}

@@ -44,10 +44,10 @@ use denote.Exit.{yes}
 use Rattle.callcontrol.specs.declared.call.Call.{Call}
 use Rattle.console.specs.Table.{noCall as none}
 use Rattle.console.proofs.Eight.{puts, put8, lt, len}
-use Rattle.console.proofs.Rows.{to-row, of-row}
+use Rattle.console.proofs.Walking.{to-row, of-row}
 use Rattle.callcontrol.proofs.call.Call as T
 use Rattle.callcontrol.proofs.call.Call.Laws as T′
-use Rattle.console.proofs.Again.{LentAgain, lends-again-at, comes-back-at}
+use Rattle.console.proofs.LentAgain.{LentAgain, lends-again-at, comes-back-at}
 use Rattle.console.proofs.lent.store_at as store-at
 use Rattle.console.proofs.lent.store_at.Symbol as store-at-def
 use Rattle.console.proofs.lent.store_at.Symbol.{name as #console·lent·store-at}
