@@ -10,12 +10,11 @@ use Rattle.records.specs.declared.events.Event.{Event}
 use Rattle.callcontrol.specs.declared.call.Call.{Call}
 use Rattle.callcontrol.specs.Draft.{Draft}
 use Rattle.callcontrol.specs.declared.row.Row.{Row}
-use Rattle.callcontrol.specs.declared.step.Room.{Room}
 use Rattle.callcontrol.specs.Draft.{noRow}
 use Rattle.callcontrol.specs.Rows.{rowFor}
 use Rattle.callcontrol.specs.Settle.{settled, draftOf}
 use Rattle.callcontrol.specs.Writing.{messagesIn, bytesOf, Laid}
-use Rattle.callcontrol.specs.Step.{Outcome, refusal, otherCall, overTransmission, carried, decided, roomFor}
+use Rattle.callcontrol.specs.Step.{Outcome, refusal, otherCall, overTransmission, carried, decided}
 use Rattle.callcontrol.proofs.Laying.{lay-fits}
 
 pub too-long : (c : Call) (d : Draft) (b : List ℕ) (n : ℕ) → n ≡ length (bytesOf (messagesIn d)) → length b < n → refusal 7 c b ≡ carried c d b
@@ -71,18 +70,3 @@ pub by-none : (c : Call) (e : Event) (b : List ℕ) (r : Row) → otherCall c e 
     → refusal 6 c b ≡ decided c e b
 unfolding decided
 by-none c e b r agrees row none = rw (agrees, no-row c r (rowFor c e) row none)
-
--- the room that a row's messages take
-
-pub no-room-wanted : (c : Call) (e : Event) (r : Row) → draftOf c r ≡ rowFor c e → r .orders ≡ 0 → Room.NoRow ≡ roomFor c e
-unfolding roomFor
-no-room-wanted c e r row none = rw (no-row c r (rowFor c e) row none)
-
-pub room-wanted : (c : Call) (e : Event) (r : Row) (d : Draft) (n : ℕ) → draftOf c r ≡ rowFor c e → (r .orders ≡ 0 → ⊥) → d ≡ settled c r
-    → n ≡ length (bytesOf (messagesIn d)) → Room.Bytes n ≡ roomFor c e
-unfolding roomFor
-room-wanted c e r d n row some settle size =
-    let same : d ≡ rowFor c e = settle ∙ settled-row c r (rowFor c e) row some in
-    let taken : rowFor c e .taken ≡ true = ap (λ (w : Draft). w .taken) (sym same) ∙ ap (λ (w : Draft). w .taken) settle ∙ settled-taken c r in
-    ap Room.Bytes (size ∙ ap (λ (w : Draft). length (bytesOf (messagesIn w))) same)
-    ∙ ap (λ (t : Bool). cond t (Room.Bytes (length (bytesOf (messagesIn (rowFor c e))))) Room.NoRow) (sym taken)

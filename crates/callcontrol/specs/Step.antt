@@ -16,7 +16,6 @@ use Rattle.callcontrol.specs.Draft.{Draft}
 use Rattle.callcontrol.specs.declared.step.Answer.{Answer}
 use Rattle.callcontrol.specs.declared.step.Named.{Named}
 use Rattle.callcontrol.specs.declared.step.Stepped.{Stepped}
-use Rattle.callcontrol.specs.declared.step.Room.{Room}
 use Rattle.callcontrol.specs.Call.{sound, isIdle}
 use Rattle.callcontrol.specs.Rows.{rowFor}
 use Rattle.callcontrol.specs.Writing.{messagesIn, bytesOf}
@@ -117,10 +116,6 @@ decided c e buffer =
     (cond (rowFor c e .taken)
     (cond (overTransmission c e) (refusal 8 c buffer) (carried c (rowFor c e) buffer))
     (refusal 6 c buffer))
-
--- the room that a row's messages take
-unfoldable pub roomFor : Call → Event → Room
-roomFor c e = cond (rowFor c e .taken) (Room.Bytes (length (bytesOf (messagesIn (rowFor c e))))) Room.NoRow
 
 abbrev pub whenRead : Read Event → Call → List ℕ → Outcome
 whenRead (taken e) c buffer = decided c e buffer

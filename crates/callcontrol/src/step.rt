@@ -2,7 +2,7 @@
 ghost use mathlib.Core.Path.{_≡_};
 ghost use Prim.Native.Nat.{_<_};
 ghost use Rattle.callcontrol.specs.Draft.{asDraft};
-ghost use Rattle.callcontrol.specs.Step.{answerNumber, refusing, namedIn, differs, otherCall, transmits, overTransmission, carried, decided, stepOf, asOutcome, unreadAs, placeIn, roomFor};
+ghost use Rattle.callcontrol.specs.Step.{answerNumber, refusing, namedIn, differs, otherCall, transmits, overTransmission, carried, decided, stepOf, asOutcome, unreadAs, placeIn};
 use crate::call::Call;
 use crate::draft::Drafted;
 use crate::rows::row_for;
@@ -77,12 +77,6 @@ fn refuse(answer: Answer, place: u8, call: Call) -> Stepped
 pub enum Named {
     Id(u16),
     NoCall,
-}
-
-// The room that an event's messages take, where there is a row for it.
-pub enum Room {
-    Bytes(usize),
-    NoRow,
 }
 
 // The identifier of a network event but D-SETUP.
@@ -200,18 +194,7 @@ fn carry(call: Call, draft: Drafted, buffer: &mut [u8]) -> Stepped
     }
 }
 
-// How many bytes an event would write, nothing being changed.
-pub fn room_for(call: Call, event: Event) -> Room
-    ensures { λ r. ⌜ r ≡ roomFor call event ⌝ }
-{
-    let row = row_for(call, event);
-    if row.orders == 0 {
-        return Room::NoRow;
-    }
-    Room::Bytes(messages_size(settle(call, row)))
-}
-
-// The step of an event that was read, on a record that is sound.
+// An event that was read, of a record that the caller has found sound.
 pub fn decide(call: Call, event: Event, buffer: &mut [u8]) -> Stepped
     ensures { λ r. ⌜ asOutcome r (now (buffer .exit)) ≡ decided call event (now (buffer .entry)) ⌝ }
 {

@@ -1,5 +1,5 @@
 -- An event at every place: what is counted and laid place by place is what is counted and laid for all.
-use Prim.Native.Nat.{ℕ, suc, _+_, _-_, _≤_, _<_}
+use Prim.Native.Nat.{ℕ, suc, _+_, _-_, _≤_, _<_, _*_}
 use mathlib.Core.Path.{_≡_, refl, sym, _∙_, ap}
 use mathlib.Core.Bool.{Bool, true, false, cond, not, _||_}
 use mathlib.Core.List.{List, [], _∷_, _++_, append-nil, append-assoc}
@@ -10,22 +10,21 @@ use borrow.Author.Tests.{ne-eqb, le-leb, lt-leb, not-true, not-false, eqb-true}
 use borrow.Rule.Slice.PartMut.{putMid}
 use lib.Dec.{eqb, lit≤}
 use lib.ListN.{length, take, drop, set, length-append, length-drop, take-append-drop, drop-of-length-le}
-use lib.Seq.{sets, length-sets, take-all, take-suc, length-take-le, drop-cons, set-at, getD-at}
+use lib.Seq.{sets, sets-eq, length-sets, take-all, take-suc, take-length, take-append-seam, length-take-le, drop-cons, set-at, getD-at}
 use Rattle.records.specs.declared.events.Event.{Event}
 use Rattle.records.specs.declared.messages.Message.{Message}
 use Rattle.records.specs.Messages.{messageBytes}
 use Rattle.records.proofs.Laws.{sets-append}
 use Rattle.callcontrol.specs.declared.call.Call.{Call}
-use Rattle.callcontrol.specs.declared.step.Room.{Room}
 use Rattle.callcontrol.specs.Rows.{rowFor}
 use Rattle.callcontrol.specs.Writing.{messagesIn, bytesOf}
-use Rattle.callcontrol.specs.Step.{Outcome, refusal, otherCall, overTransmission, decided, roomFor}
+use Rattle.callcontrol.specs.Step.{Outcome, refusal, otherCall, overTransmission, decided}
 use Rattle.callcontrol.proofs.Laying.{messages-small, size-append}
 use Rattle.console.specs.declared.route.Aim.{Aim}
-use Rattle.console.specs.declared.console.Count.{Count}
+use Rattle.console.specs.declared.console.AllStepped.{AllStepped}
 use Rattle.console.specs.Table.{noCall, callAt, some?}
 use Rattle.console.specs.Route.{aimOf}
-use Rattle.console.specs.Console.{behind, writes, placed, takes, writesFrom, nextOf, allNext, headed, counted, countedAll, LaidAll, ConsoleOutcome, everywhere, refuses}
+use Rattle.console.specs.Console.{behind, writes, placed, takes, writesFrom, nextOf, allNext, headed, LaidAll, ConsoleOutcome, everywhere, refuses}
 use Rattle.console.proofs.Placing.{bytesAt, taking, place-size, no-bytes, row-carried, row-missing, carried-whole, placed-refuses, placed-takes, part-whole, put-whole, stored-part}
 
 -- ---- one place more
@@ -90,17 +89,11 @@ module _ (calls : List Call) (e : Event) where
       ap (λ (z : List Call). writesFrom 0 z e) (sym (take-append-drop k calls)) ∙ from-append 0 (take k calls) (drop k calls) e in
       rw s (omega (arith, size-append (done k) (writesFrom (0 + length (take k calls)) (drop k calls) e)))
 
--- ---- counting
-
-abbrev pub counting : Bool → ℕ → Count
-counting t n = record { taken = t; size = n }
+-- ---- how many bytes a place writes
 
 headed-few : (n : ℕ) → n ≤ 122 → (z : Bool) → cond z 0 (5 + n) ≤ 127
 headed-few n h true = omega arith
 headed-few n h false = omega arith
-
-pub headed-within : {n m : ℕ} → n ≤ 122 → m ≡ headed n → m ≤ 127
-headed-within {n} h is = rw is (headed-few n h (eqb n 0))
 
 module _ (c : Call) (e : Event) where
   pub part-size : (k : ℕ) (t : Bool) → takes e c ≡ t → length (bytesOf (part k c e)) ≡ cond t (headed (length (bytesAt c e))) 0
@@ -115,67 +108,20 @@ module _ (c : Call) (e : Event) where
           ∙ sym (ap (λ (x : Bool). cond x 0 (5 + length (bytesOf (m ∷ ms)))) (ne-eqb _ _ some))
   part-size k false t = ap (λ (x : Bool). length (bytesOf (cond x (writes k c e) []))) t
 
-  -- room that is wanted says that there is a row, and how long its messages are
-  wanted : (t : Bool) → takes e c ≡ t → {n : ℕ} → Room.Bytes n ≡ roomFor c e → (takes e c ≡ true) × (n ≡ length (bytesAt c e))
-  unfolding roomFor
-  wanted true t {n} h = (t, cc (h ∙ ap (λ (x : Bool). cond x (Room.Bytes (length (bytesAt c e))) Room.NoRow) t))
-  wanted false t {n} h =
-      let w : _≡_ {A = ℕ} 0 1 = cc (h ∙ ap (λ (x : Bool). cond x (Room.Bytes (length (bytesAt c e))) Room.NoRow) t) in absurd (omega arith)
+pub part-few : (k : ℕ) (c : Call) (e : Event) (t : Bool) → takes e c ≡ t → length (bytesOf (part k c e)) ≤ 127
+part-few k c e true t = rw (part-size c e k true t) (headed-few (length (bytesAt c e)) (messages-small (rowFor c e)) (eqb (length (bytesAt c e)) 0))
+part-few k c e false t = rw (part-size c e k false t) (omega arith)
 
-  unwanted : (t : Bool) → takes e c ≡ t → Room.NoRow ≡ roomFor c e → takes e c ≡ false
-  unfolding roomFor
-  unwanted true t h =
-      let w : _≡_ {A = ℕ} 0 1 = cc (h ∙ ap (λ (x : Bool). cond x (Room.Bytes (length (bytesAt c e))) Room.NoRow) t) in absurd (omega arith)
-  unwanted false t h = t
+few-from : (k : ℕ) (cs : List Call) (e : Event) → length (bytesOf (writesFrom k cs e)) ≤ 127 * length cs
+unfolding bytesOf
+few-from k [] e = omega arith
+few-from k (c ∷ cs) e =
+    omega (arith, size-append (part k c e) (writesFrom (suc k) cs e), part-few k c e (takes e c) refl, few-from (suc k) cs e)
 
-  pub wanted-few : {n : ℕ} → Room.Bytes n ≡ roomFor c e → n ≤ 122
-  wanted-few h = rw (wanted (takes e c) refl h .1) (messages-small (rowFor c e))
-
-  -- the code's count is the definition's
-  pub count-more : (w : Count) {n m : ℕ} → Room.Bytes n ≡ roomFor c e → m ≡ headed n → counting true (w .size + m) ≡ counted w c e
-  unfolding counted
-  count-more w h size =
-      let g = wanted (takes e c) refl h in
-      ap (λ (x : ℕ). counting true (w .size + x)) (size ∙ ap (λ (x : ℕ). headed x) (g .1))
-      ∙ ap (λ (x : Bool). cond x (counting true (w .size + headed (length (bytesAt c e)))) w) (sym (g .0))
-
-  pub count-same : (w : Count) → Room.NoRow ≡ roomFor c e → w ≡ counted w c e
-  unfolding counted
-  count-same w h =
-      ap (λ (x : Bool). cond x (counting true (w .size + headed (length (bytesAt c e)))) w) (sym (unwanted (takes e c) refl h))
-
-  few-more : (w : Count) (t : Bool) → cond t (counting true (w .size + headed (length (bytesAt c e)))) w .size ≤ w .size + 127
-  few-more w true = omega (arith, headed-few (length (bytesAt c e)) (messages-small (rowFor c e)) (eqb (length (bytesAt c e)) 0))
-  few-more w false = omega arith
-
-  pub few-counted : (w : Count) {r : Count} → r ≡ counted w c e → r .size ≤ w .size + 127
-  unfolding counted
-  few-counted w is = rw is (few-more w (takes e c))
-
-by-taken : (t s : Bool) (n m : ℕ) → cond t (counting true (n + m)) (counting s n) ≡ counting (t || s) (n + cond t m 0)
-by-taken true s n m = refl
-by-taken false s n m = ap (λ (x : ℕ). counting s x) (sym (add-zero n))
-
-module _ (calls : List Call) (e : Event) where
-  pub counted-none : counting false 0 ≡ countedAll (take 0 calls) e
-  unfolding countedAll bytesOf
-  counted-none = refl
-
-  pub counted-more : (k : ℕ) → k < length calls → counted (countedAll (take k calls) e) (callAt calls k) e ≡ countedAll (take (k + 1) calls) e
-  unfolding counted countedAll
-  counted-more k lt =
-      let c = callAt calls k in
-      let taken : some? (takes e) (take (k + 1) calls) ≡ (takes e c || some? (takes e) (take k calls)) =
-      ap (λ (z : List Call). some? (takes e) z) (more calls e k lt) ∙ some-append (takes e) (take k calls) c in
-      let size : length (bytesOf (done calls e (k + 1))) ≡ length (bytesOf (done calls e k)) + cond (takes e c) (headed (length (bytesAt c e))) 0 =
-      ap (λ (z : List Message). length (bytesOf z)) (done-more calls e k lt)
-      ∙ size-append (done calls e k) (part k c e)
-      ∙ ap (λ (n : ℕ). length (bytesOf (done calls e k)) + n) (part-size c e k (takes e c) refl) in
-      by-taken (takes e c) (some? (takes e) (take k calls)) (length (bytesOf (done calls e k))) (headed (length (bytesAt c e)))
-      ∙ (λ i. counting (sym taken i) (sym size i))
-
-  pub counted-all : (k : ℕ) → length calls ≤ k → countedAll (take k calls) e ≡ countedAll calls e
-  counted-all k le = ap (λ (z : List Call). countedAll z e) (take-all k calls le)
+-- eight places have room in our own buffer
+pub own-room : (calls : List Call) (e : Event) (own : List ℕ) → length calls ≡ 8 → 1016 ≡ length own
+    → length (bytesOf (writesFrom 0 calls e)) ≤ length own
+own-room calls e own eight size = let w = few-from 0 calls e in omega arith
 
 -- ---- laying
 
@@ -226,6 +172,7 @@ part-room k c e b t room =
 
 -- where there is room, a place that takes the event writes its part, and another stays as it is
 pub record Placed (k : ℕ) (c : Call) (e : Event) (b : List ℕ) (o : Outcome) : Type 0 where
+  pub answer : eqb (o .answer) 0 ≡ takes e c
   pub call : o .call ≡ nextOf e c
   pub count : o .count ≡ length (bytesOf (part k c e))
   pub buffer : o .buffer ≡ sets b 0 (bytesOf (part k c e))
@@ -238,6 +185,7 @@ module _ (k : ℕ) (c : Call) (e : Event) (b : List ℕ) (every : aimOf e ≡ Ai
       let d : decided c e (drop 5 b) ≡ taking c e (drop 5 b) = row-carried c e (drop 5 b) (ours c e every) t (silent c e every) ∙ carried-whole c e (drop 5 b) fits in
       let w = sym (placed-takes k c e b d) in
       record {
+        answer = ap (λ (o : Outcome). eqb (o .answer) 0) w ∙ sym t;
         call = ap (λ (o : Outcome). o .call) w ∙ ap (λ (x : Bool). cond x (rowFor c e .call) c) (sym t);
         count = ap (λ (o : Outcome). o .count) w ∙ ap (λ (x : Bool). length (bytesOf (cond x (writes k c e) []))) (sym t);
         buffer = ap (λ (o : Outcome). o .buffer) w ∙ ap (λ (x : Bool). sets b 0 (bytesOf (cond x (writes k c e) []))) (sym t);
@@ -246,6 +194,7 @@ module _ (k : ℕ) (c : Call) (e : Event) (b : List ℕ) (every : aimOf e ≡ Ai
       let d : decided c e (drop 5 b) ≡ refusal 6 c (drop 5 b) = row-missing c e (drop 5 b) (ours c e every) t in
       let w = sym (placed-refuses k c e b 6 (lit≤ tt) d) in
       record {
+        answer = ap (λ (o : Outcome). eqb (o .answer) 0) w ∙ sym t;
         call = ap (λ (o : Outcome). o .call) w ∙ ap (λ (x : Bool). cond x (rowFor c e .call) c) (sym t);
         count = ap (λ (o : Outcome). o .count) w ∙ ap (λ (x : Bool). length (bytesOf (cond x (writes k c e) []))) (sym t);
         buffer = ap (λ (o : Outcome). o .buffer) w ∙ ap (λ (x : Bool). sets b 0 (bytesOf (cond x (writes k c e) []))) (sym t);
@@ -255,29 +204,33 @@ module _ (k : ℕ) (c : Call) (e : Event) (b : List ℕ) (every : aimOf e ≡ Ai
   placed-part = placed-by (takes e c) refl
 
 -- the buffer and the table where k places have been passed
-pub record Putting (e : Event) (b₀ : List ℕ) (calls : List Call) (b : List ℕ) (after : List Call) (at k : ℕ) : Type 0 where
+pub record Putting (e : Event) (b₀ : List ℕ) (calls : List Call) (b : List ℕ) (after : List Call) (t : Bool) (at k : ℕ) : Type 0 where
   pub bytes : b ≡ sets b₀ 0 (bytesOf (done calls e k))
   pub records : after ≡ allNext (take k calls) e ++ drop k calls
+  pub taken : t ≡ some? (takes e) (take k calls)
   pub position : at ≡ length (bytesOf (done calls e k))
   pub passed : k ≤ 8
   pub eight : length calls ≡ 8
   pub room : length (bytesOf (writesFrom 0 calls e)) ≤ length b₀
 
 pub put-none : {e : Event} {b : List ℕ} {calls : List Call} → length calls ≡ 8 → length (bytesOf (writesFrom 0 calls e)) ≤ length b
-    → Putting e b calls b calls 0 0
+    → Putting e b calls b calls false 0 0
 unfolding bytesOf
-put-none eight room = record { bytes = refl; records = refl; position = refl; passed = omega arith; eight = eight; room = room }
+put-none eight room = record { bytes = refl; records = refl; taken = refl; position = refl; passed = omega arith; eight = eight; room = room }
 
-module _ {e : Event} {b₀ : List ℕ} {calls : List Call} {b : List ℕ} {after : List Call} {at k : ℕ} (p : Putting e b₀ calls b after at k) where
+module _
+    {e : Event} {b₀ : List ℕ} {calls : List Call} {b : List ℕ} {after : List Call} {t : Bool} {at k : ℕ} (p : Putting e b₀ calls b after t at k) where
   pub same-room : length b ≡ length b₀
   same-room = ap length (p .bytes) ∙ length-sets b₀ 0 (bytesOf (done calls e k))
 
   pub position-within : at ≤ length b
   position-within = let w = done-within calls e k in let l = same-room in let a = p .position in let r = p .room in omega arith
 
-  pub put-all : length calls ≤ k → LaidAll after b calls e b₀
+  pub put-all : length calls ≤ k → LaidAll (record { taken = t; size = at; calls = after }) b calls e b₀
   put-all le =
       record {
+        taken = p .taken ∙ ap (λ (z : List Call). some? (takes e) z) (take-all k calls le);
+        size = p .position ∙ ap (λ (z : List Message). length (bytesOf z)) (done-all calls e k le);
         records =
             p .records
             ∙ ap (λ (z : List Call). allNext z e ++ drop k calls) (take-all k calls le)
@@ -321,9 +274,10 @@ module _ {e : Event} {b₀ : List ℕ} {calls : List Call} {b : List ℕ} {after
       pub count-within : at + o .count ≤ length b
       count-within = let r = room-more in let c = placing .count in omega arith
 
-      pub put-more : Putting e b₀ calls (putMid at (length b - at) b (o .buffer)) (set after k (o .call)) (at + o .count) (k + 1)
-      put-more =
-          let n = p .eight in
+      pub put-more : {n : ℕ} → n ≡ o .answer
+          → Putting e b₀ calls (putMid at (length b - at) b (o .buffer)) (set after k (o .call)) (eqb n 0 || t) (at + o .count) (k + 1)
+      put-more {n} number =
+          let eight = p .eight in
           let whole : bytesOf (done calls e (k + 1)) ≡ bytesOf (done calls e k) ++ bytesOf (part k (callAt calls k) e) =
           ap bytesOf (done-more calls e k (omega arith)) ∙ bytes-append (done calls e k) (part k (callAt calls k) e) in
           record {
@@ -344,31 +298,60 @@ module _ {e : Event} {b₀ : List ℕ} {calls : List Call} {b : List ℕ} {after
                 ∙ ap (λ (z : List Call). z ++ drop (k + 1) calls) (next-append (take k calls) (callAt calls k ∷ []) e)
                 ∙ append-assoc (allNext (take k calls) e) (nextOf e (callAt calls k) ∷ []) (drop (k + 1) calls)
                 ∙ ap (λ (m : ℕ). allNext (take k calls) e ++ nextOf e (callAt calls k) ∷ drop m calls) (add-one k));
+            taken =
+                (λ i. (ap (λ (x : ℕ). eqb x 0) number ∙ placing .answer) i || p .taken i)
+                ∙ sym
+                (ap (λ (z : List Call). some? (takes e) z) (more calls e k (omega arith))
+                ∙ some-append (takes e) (take k calls) (callAt calls k));
             position = ap (λ (m : ℕ). at + m) (placing .count) ∙ sym size-more;
             passed = omega arith;
-            eight = n;
+            eight = eight;
             room = p .room;
           }
 
 -- ---- an event at every place: the answers
 
-module _ (calls : List Call) (e : Event) (b : List ℕ) {w : Count} (count : w ≡ countedAll calls e) where
-  pub none-takes : not (w .taken) ≡ true → refuses 6 calls b ≡ everywhere calls e b
-  unfolding everywhere countedAll
-  none-takes none = rw (sym (ap (λ (x : Count). x .taken) count) ∙ not-true _ none)
+pub own-fits : (calls : List Call) (e : Event) {r : AllStepped} {own own₀ : List ℕ} → LaidAll r own calls e own₀ → length calls ≡ 8 → 1016 ≡ length own₀
+    → r .size ≤ length own
+own-fits calls e {r} {own} {own₀} laid eight size =
+    let w = few-from 0 calls e in
+    let n = laid .size in
+    let l : length own ≡ length own₀ = ap length (laid .bytes) ∙ length-sets own₀ 0 (bytesOf (writesFrom 0 calls e)) in
+    omega arith
 
-  pub no-space : not (w .taken) ≡ false → length b < w .size → refuses 7 calls b ≡ everywhere calls e b
-  unfolding everywhere countedAll
-  no-space some short =
-      rw (sym (ap (λ (x : Count). x .taken) count) ∙ not-false _ some, lt-leb _ _ (rw (ap (λ (x : Count). x .size) count) at short))
+-- the front of our own buffer is as long as what was laid
+pub front-size : (n : ℕ) (own : List ℕ) → n ≤ length own → n ≡ length (take n own)
+front-size n own fits = sym (length-take-le n own fits)
 
-  pub space : w .size ≤ length b → length (bytesOf (writesFrom 0 calls e)) ≤ length b
-  unfolding countedAll
-  space room = rw (ap (λ (x : Count). x .size) count) at room
+pub front-within : (n : ℕ) (own b : List ℕ) → n ≤ length own → n ≤ length b → length (take n own) ≤ length b
+front-within n own b fits room = let s = front-size n own fits in omega arith
 
-  pub all-take : not (w .taken) ≡ false → w .size ≤ length b → {after : List Call} {now : List ℕ} → LaidAll after now calls e b
-      → _≡_ {A = ConsoleOutcome} (record { answer = 0; place = 0; calls = after; count = w .size; buffer = now }) (everywhere calls e b)
-  unfolding everywhere countedAll
-  all-take some room laid =
-      rw
-      (sym (ap (λ (x : Count). x .taken) count) ∙ not-false _ some, le-leb _ _ (space room), laid .records, laid .bytes, ap (λ (x : Count). x .size) count)
+module _ (calls : List Call) (e : Event) (b : List ℕ) {r : AllStepped} {own own₀ : List ℕ} (laid : LaidAll r own calls e own₀) where
+  pub none-takes : not (r .taken) ≡ true → refuses 6 calls b ≡ everywhere calls e b
+  unfolding everywhere
+  none-takes none = rw (sym (laid .taken) ∙ not-true _ none)
+
+  pub no-space : not (r .taken) ≡ false → length b < r .size → refuses 7 calls b ≡ everywhere calls e b
+  unfolding everywhere
+  no-space some short = rw (sym (laid .taken) ∙ not-false _ some, lt-leb _ _ (rw (laid .size) at short))
+
+  -- what is copied is what was laid
+  copied : {now : List ℕ} → r .size ≤ length b → r .size ≤ length own
+      → now ≡ take (length (take (r .size) own)) (take (r .size) own) ++ drop (length (take (r .size) own)) b
+      → now ≡ sets b 0 (bytesOf (writesFrom 0 calls e))
+  copied room fits is =
+      let v = bytesOf (writesFrom 0 calls e) in
+      let n = laid .size in
+      let l : length own ≡ length own₀ = ap length (laid .bytes) ∙ length-sets own₀ 0 v in
+      let front : take (r .size) own ≡ v =
+      ap (λ (m : ℕ). take m own) n ∙ ap (λ (z : List ℕ). take (length v) z) (laid .bytes ∙ sets-eq v own₀ 0 (omega arith))
+      ∙ take-append-seam v (drop (0 + length v) own₀) in
+      is ∙ ap (λ (z : List ℕ). take (length z) z ++ drop (length z) b) front ∙ ap (λ (z : List ℕ). z ++ drop (length v) b) (take-length v)
+      ∙ sym (sets-eq v b 0 (omega arith) ∙ ap (λ (m : ℕ). v ++ drop m b) (zero-add (length v)))
+
+  pub all-take : not (r .taken) ≡ false → r .size ≤ length b → r .size ≤ length own → {now : List ℕ}
+      → now ≡ take (length (take (r .size) own)) (take (r .size) own) ++ drop (length (take (r .size) own)) b
+      → _≡_ {A = ConsoleOutcome} (record { answer = 0; place = 0; calls = r .calls; count = r .size; buffer = now }) (everywhere calls e b)
+  unfolding everywhere
+  all-take some room fits is =
+      rw (sym (laid .taken) ∙ not-false _ some, le-leb _ _ (rw (laid .size) at room), laid .records, copied room fits is, laid .size)

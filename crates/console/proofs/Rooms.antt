@@ -16,7 +16,7 @@ use Rattle.callcontrol.specs.declared.call.Call.{Call}
 use Rattle.callcontrol.specs.Draft.{Draft}
 use Rattle.callcontrol.specs.Rows.{rowFor}
 use Rattle.callcontrol.specs.Writing.{messagesIn, bytesOf, countOf}
-use Rattle.callcontrol.proofs.Laying.{size-messages, size-append, messages-small}
+use Rattle.callcontrol.proofs.Laying.{size-messages, size-append}
 use Rattle.callcontrol.proofs.Verbs.{verbs}
 use Rattle.demands.specs.Demands.{Kept}
 use Rattle.demands.proofs.Bound.{slot, slot-size}
@@ -29,7 +29,7 @@ use Rattle.console.specs.Runs.{ConsoleTurn, consoleOutcome}
 use Rattle.console.proofs.Placing.{bytesAt, Decides, decides, placed-refuses, placed-takes}
 use Rattle.console.proofs.Tables.{eight-of}
 use Rattle.console.proofs.Turns.{Everywhere, everywhere-does, none-takes, no-room, all-take, Came, came, unsound, unread, routes}
-use Rattle.console.proofs.Everywhere.{part, part-size}
+use Rattle.console.proofs.Everywhere.{part, part-size, part-few}
 
 -- ---- how many bytes a row writes, by its parts
 
@@ -101,10 +101,6 @@ module _ (calls : List Call) (eight : length calls ≡ 8) (kept : (k : ℕ) → 
       omega arith
 
 -- ---- any table of eight: a bound for the boundary's number
-
-part-few : (k : ℕ) (c : Call) (e : Event) (t : Bool) → takes e c ≡ t → length (bytesOf (part k c e)) ≤ 127
-part-few k c e true t = rw (part-size c e k true t) (headed-most (length (bytesAt c e)) 122 (eqb (length (bytesAt c e)) 0) (messages-small (rowFor c e)))
-part-few k c e false t = rw (part-size c e k false t) (omega arith)
 
 place-few : (k : ℕ) (c : Call) (e : Event) (b : List ℕ) → placed k c e b .count ≤ 127
 place-few k c e b = by (decides c e (drop 5 b))

@@ -1,7 +1,7 @@
 -- The console's step: the answers in their order, and what each gives back.
 use Prim.Native.Nat.{ℕ, suc, _+_}
 use mathlib.Core.Path.{_≡_}
-use mathlib.Core.Bool.{Bool, true, cond}
+use mathlib.Core.Bool.{Bool, cond}
 use mathlib.Core.List.{List, [], _∷_, _++_}
 use lib.Dec.{leb, ltb, eqb}
 use lib.ListN.{length, drop, set}
@@ -16,7 +16,7 @@ use Rattle.callcontrol.specs.Writing.{messagesIn, bytesOf}
 use Rattle.callcontrol.specs.Step.{Outcome, refusal, decided}
 use Rattle.console.specs.declared.route.Route.{Route}
 use Rattle.console.specs.declared.console.ConsoleStepped.{ConsoleStepped}
-use Rattle.console.specs.declared.console.Count.{Count}
+use Rattle.console.specs.declared.console.AllStepped.{AllStepped}
 use Rattle.console.specs.Table.{callAt, some?, tableSound}
 use Rattle.console.specs.Route.{consoleNumber, routeOf}
 
@@ -116,15 +116,9 @@ headed n = cond (eqb n 0) 0 (5 + n)
 abbrev pub headRoom : ℕ → ℕ
 headRoom n = cond (ltb n 5) n 5
 
--- one place more is counted
-unfoldable pub counted : Count → Call → Event → Count
-counted w c e =
-    cond (takes e c) (record { taken = true; size = w .size + headed (length (bytesOf (messagesIn (rowFor c e)))) }) w
-
-unfoldable pub countedAll : List Call → Event → Count
-countedAll calls e = record { taken = some? (takes e) calls; size = length (bytesOf (writesFrom 0 calls e)) }
-
--- all places' records and messages, in the buffer from its front
-pub record LaidAll (after : List Call) (now : List ℕ) (calls : List Call) (e : Event) (buffer : List ℕ) : Type 0 where
-  pub records : after ≡ allNext calls e
+-- what all places write is laid in the buffer from its front
+pub record LaidAll (r : AllStepped) (now : List ℕ) (calls : List Call) (e : Event) (buffer : List ℕ) : Type 0 where
+  pub taken : r .taken ≡ some? (takes e) calls
+  pub size : r .size ≡ length (bytesOf (writesFrom 0 calls e))
+  pub records : r .calls ≡ allNext calls e
   pub bytes : now ≡ sets buffer 0 (bytesOf (writesFrom 0 calls e))

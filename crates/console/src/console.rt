@@ -6,18 +6,17 @@ ghost use Rattle.callcontrol.specs.Writing.{bytesOf};
 ghost use Rattle.callcontrol.specs.Step.{asOutcome};
 ghost use Rattle.console.specs.declared.route.Aim.{Aim};
 ghost use Rattle.console.specs.Route.{aimOf};
-ghost use Rattle.console.specs.Console.{headed, headRoom, placed, atPlace, counted, countedAll, LaidAll, writesFrom, everywhere, asConsole, consoleOf};
+ghost use Rattle.console.specs.Console.{headed, headRoom, placed, atPlace, LaidAll, writesFrom, everywhere, asConsole, consoleOf};
 use crate::route::ConsoleAnswer;
 use crate::route::Route;
 use crate::route::route_of;
 use crate::table::table_sound;
 use callcontrol::call::Call;
 use callcontrol::step::Answer;
-use callcontrol::step::Room;
 use callcontrol::step::Stepped;
+use callcontrol::step::answer_number;
 use callcontrol::step::decide;
 use callcontrol::step::place_in;
-use callcontrol::step::room_for;
 use callcontrol::step::unread;
 use records::events::Event;
 use records::events::EventRead;
@@ -25,10 +24,11 @@ use records::events::read_event;
 use records::messages::Message;
 use records::messages::lay_message;
 
-// Whether a place takes an event, and how many bytes are written for it.
-pub struct Count {
+// Whether a place takes an event, how many bytes are written for it, and the eight records.
+pub struct AllStepped {
     pub taken: bool,
     pub size: usize,
+    pub calls: [Call; 8],
 }
 
 // The answer, the place that comes with 4, the count of bytes written and the eight records.
@@ -87,71 +87,57 @@ fn at_place(calls: [Call; 8], k: usize, event: Event, buffer: &mut [u8]) -> Cons
     let stepped = place_step(calls[k], k as u8, event, buffer);
     let answer = stepped.answer;
     let next = stepped.call;
-    let mut after = calls;
-    after[k] = next;
+    let mut table = calls;
+    table[k] = next;
     ConsoleStepped {
         answer: ConsoleAnswer::OfStep(answer),
         place: stepped.place,
         count: stepped.count,
-        calls: after,
+        calls: table,
     }
-}
-
-// One place more is counted.
-fn count_place(count: Count, call: Call, event: Event) -> Count
-    requires { ⌜ count .size ≤ 1016 ⌝ }
-    ensures { λ r. ⌜ r ≡ counted count call event ⌝ }
-{
-    let Room::Bytes(size) = room_for(call, event) else {
-        return count;
-    };
-    Count {
-        taken: true,
-        size: count.size + with_head(size),
-    }
-}
-
-fn count_all(calls: [Call; 8], event: Event) -> Count
-    ensures { λ r. ⌜ r ≡ countedAll calls event ⌝ }
-{
-    let mut count = Count {
-        taken: false,
-        size: 0,
-    };
-    let mut k = 0;
-    while k < 8 {
-        count = count_place(count, calls[k], event);
-        k += 1;
-    }
-    count
 }
 
 // The steps of all places, where there is room for what they write: a place that does not take the event stays as it is.
-fn put_all(calls: [Call; 8], event: Event, buffer: &mut [u8]) -> [Call; 8]
+fn put_all(calls: [Call; 8], event: Event, buffer: &mut [u8]) -> AllStepped
     requires { ⌜ aimOf event ≡ Aim.Every ⌝ }
     requires { ⌜ length (bytesOf (writesFrom 0 calls event)) ≤ length (now buffer) ⌝ }
     ensures { λ r. ⌜ LaidAll r (now (buffer .exit)) calls event (now (buffer .entry)) ⌝ }
 {
     let mut after = calls;
+    let mut taken = false;
     let mut at = 0;
     let mut k = 0;
     while k < 8 {
         let stepped = place_step(after[k], k as u8, event, &mut buffer[at..]);
+        let answer = stepped.answer;
         let next = stepped.call;
         after[k] = next;
+        taken = (answer_number(answer) == 0) | taken;
         at += stepped.count;
         k += 1;
     }
-    after
+    AllStepped {
+        taken,
+        size: at,
+        calls: after,
+    }
 }
 
-// An event for every place that would take it: counted first, and stored only where all of it fits.
+// Room for what eight places write, whatever their rows are.
+fn own_buffer() -> [u8; 1016]
+    ensures { λ r. ⌜ 1016 ≡ length r ⌝ }
+{
+    [0; 1016]
+}
+
+// An event for every place that would take it: laid in a buffer of our own first, and copied only where all of it fits.
 fn everywhere(calls: [Call; 8], event: Event, buffer: &mut [u8]) -> ConsoleStepped
     requires { ⌜ aimOf event ≡ Aim.Every ⌝ }
     ensures { λ r. ⌜ asConsole r (now (buffer .exit)) ≡ everywhere calls event (now (buffer .entry)) ⌝ }
 {
-    let count = count_all(calls, event);
-    if !count.taken {
+    let mut own = own_buffer();
+    let all = put_all(calls, event, &mut own);
+    if !all.taken {
         return ConsoleStepped {
             answer: ConsoleAnswer::OfStep(Answer::NoRow),
             place: 0,
@@ -159,7 +145,7 @@ fn everywhere(calls: [Call; 8], event: Event, buffer: &mut [u8]) -> ConsoleStepp
             calls,
         };
     }
-    let size = count.size;
+    let size = all.size;
     if buffer.len() < size {
         return ConsoleStepped {
             answer: ConsoleAnswer::OfStep(Answer::NoRoom),
@@ -168,7 +154,8 @@ fn everywhere(calls: [Call; 8], event: Event, buffer: &mut [u8]) -> ConsoleStepp
             calls,
         };
     }
-    let after = put_all(calls, event, buffer);
+    bytes::copy(&own[..size], buffer);
+    let after = all.calls;
     ConsoleStepped {
         answer: ConsoleAnswer::OfStep(Answer::Taken),
         place: 0,

@@ -1,22 +1,23 @@
 -- A console's table of bytes: its eight parts, read one by one and packed one by one; and what the entry answers, from what its callees give.
-use Prim.Native.Nat.{ℕ, _+_, _-_, _≤_}
+use Prim.Native.Nat.{ℕ, zero, suc, _+_, _-_, _*_, _≤_, _<_}
 use mathlib.Core.Path.{_≡_, refl, sym, _∙_, ap}
-use mathlib.Core.Bool.{Bool, true, false, cond, not}
+use mathlib.Core.Bool.{Bool, true, false, cond, not, _&&_, and-false}
 use mathlib.Core.List.{List, [], _∷_, _++_, append-nil, append-assoc}
+use native.Mathlib.Numerals.{add-one}
 use native.Mathlib.Omega.{arith}
 use borrow.Author.Tests.{not-true, not-false, eq-eqb, ne-eqb, eqb-true}
 use borrow.Rule.Slice.PartMut.{putMid}
 use lib.Dec.{eqb}
-use lib.ListN.{length, take, drop, length-drop, drop-of-length-le}
+use lib.ListN.{length, take, drop, set, length-drop, drop-of-length-le}
 use lib.Seq.{sets, sets-eq, length-sets, length-take-le, drop-drop}
 use Rattle.records.specs.Bytes.{bytes}
 use Rattle.callcontrol.specs.declared.call.Call.{Call}
-use Rattle.console.specs.Table.{callAt}
+use Rattle.console.specs.Table.{callAt, freshTable}
 use Rattle.console.specs.Console.{ConsoleOutcome, consoleOf}
 use Rattle.demands.proofs.Facts.{left, right}
-use Rattle.host.specs.Packing.{names, settings, running, packed}
+use Rattle.host.specs.Packing.{names, settings, running, packed, isRecord, held}
 use Rattle.host.specs.Entries.{word}
-use Rattle.host.specs.Table.{isTable, heldTable, packedAt, packedInto, TableLeft, consoleLeft, consoleHostStep}
+use Rattle.host.specs.Table.{recordAt, isTable, heldTable, packedAt, packedInto, TableLeft, consoleLeft, consoleHostStep}
 
 -- ---- a record into its part of the table
 
@@ -40,23 +41,94 @@ packed-part s at c room =
     ∙ sym (append-assoc (take at s) v (drop (at + length v) s))
     ∙ sym (sets-eq v s at (omega arith))
 
-pub record Packing (calls : List Call) (k at : ℕ) (s t : List ℕ) : Type 0 where
-  pub bytes : t ≡ packedAt at (callAt calls k) s
+-- the bytes of a part, as the code takes them
+abbrev pub partOf : ℕ → List ℕ → List ℕ
+partOf k s = take (21 * k + 21 - 21 * k) (drop (21 * k) s)
+
+part-size : (k : ℕ) → 21 * k + 21 - 21 * k ≡ 21
+part-size k = omega arith
+
+part-is : (k : ℕ) (s : List ℕ) → partOf k s ≡ recordAt (21 * k) s
+part-is k s = ap (λ (n : ℕ). take n (drop (21 * k) s)) (part-size k)
+
+-- the first parts are packed
+abbrev pub packedFirst : ℕ → List Call → List ℕ → List ℕ
+packedFirst zero calls s = s
+packedFirst (suc k) calls s = packedAt (21 * k) (callAt calls k) (packedFirst k calls s)
+
+pub record Packing (calls : List Call) (s : List ℕ) (k : ℕ) (t : List ℕ) : Type 0 where
+  pub bytes : t ≡ packedFirst k calls s
   pub size : length t ≡ 168
 
-pub pack-next : (calls : List Call) (k at : ℕ) (s y : List ℕ) → length s ≡ 168 → at + 21 ≤ 168 → y ≡ sets (take 21 (drop at s)) 0 (packed (callAt calls k))
-    → Packing calls k at s (putMid at 21 s y)
-pack-next calls k at s y eight room is =
-    let same : putMid at 21 s y ≡ packedAt at (callAt calls k) s =
-    ap (λ (z : List ℕ). putMid at 21 s z) is ∙ packed-part s at (callAt calls k) (omega arith) in
-    record { bytes = same; size = ap length same ∙ length-sets s at (packed (callAt calls k)) ∙ eight }
+pub pack-next : (calls : List Call) (s : List ℕ) (k : ℕ) {t y : List ℕ} → Packing calls s k t → k < 8 → y ≡ sets (partOf k t) 0 (packed (callAt calls k))
+    → Packing calls s (k + 1) (putMid (21 * k) (21 * k + 21 - 21 * k) t y)
+pack-next calls s k {t} {y} p lt is =
+    let c = callAt calls k in
+    let eight = p .size in
+    let part : putMid (21 * k) (21 * k + 21 - 21 * k) t y ≡ packedAt (21 * k) c t =
+    ap (λ (z : List ℕ). putMid (21 * k) (21 * k + 21 - 21 * k) t z) is
+    ∙ ap (λ (n : ℕ). putMid (21 * k) n t (sets (take n (drop (21 * k) t)) 0 (packed c))) (part-size k)
+    ∙ packed-part t (21 * k) c (omega arith) in
+    record {
+      bytes =
+          part ∙ ap (λ (z : List ℕ). packedAt (21 * k) c z) (p .bytes)
+          ∙ sym (ap (λ (n : ℕ). packedFirst n calls s) (add-one k));
+      size = ap length part ∙ length-sets t (21 * k) (packed c) ∙ eight;
+    }
 
-pub all-packed : (calls : List Call) {s s₁ s₂ s₃ s₄ s₅ s₆ s₇ s₈ : List ℕ} → Packing calls 0 0 s s₁ → Packing calls 1 21 s₁ s₂ → Packing calls 2 42 s₂ s₃
-    → Packing calls 3 63 s₃ s₄ → Packing calls 4 84 s₄ s₅ → Packing calls 5 105 s₅ s₆ → Packing calls 6 126 s₆ s₇ → Packing calls 7 147 s₇ s₈
-    → s₈ ≡ packedInto calls s
+pub all-packed : (calls : List Call) (s : List ℕ) (k : ℕ) {t : List ℕ} → Packing calls s k t → k ≡ 8 → t ≡ packedInto calls s
 unfolding packedInto
-all-packed calls p₁ p₂ p₃ p₄ p₅ p₆ p₇ p₈ =
-    rw (p₈ .bytes, p₇ .bytes, p₆ .bytes, p₅ .bytes, p₄ .bytes, p₃ .bytes, p₂ .bytes, p₁ .bytes)
+all-packed calls s k p all = p .bytes ∙ ap (λ (n : ℕ). packedFirst n calls s) all
+
+-- ---- the records of a table's parts
+
+-- the first parts are held, where the others are fresh still
+abbrev pub heldFirst : ℕ → List ℕ → List Call
+heldFirst zero s = freshTable
+heldFirst (suc k) s = set (heldFirst k s) k (held (recordAt (21 * k) s))
+
+pub hold-next : (s : List ℕ) (k : ℕ) {calls : List Call} {c : Call} → calls ≡ heldFirst k s → c ≡ held (partOf k s) → set calls k c ≡ heldFirst (k + 1) s
+hold-next s k before is =
+    (λ i. set (before i) k (is i)) ∙ ap (λ (z : List ℕ). set (heldFirst k s) k (held z)) (part-is k s)
+    ∙ sym (ap (λ (n : ℕ). heldFirst n s) (add-one k))
+
+pub all-held : (s : List ℕ) (k : ℕ) {calls : List Call} → calls ≡ heldFirst k s → k ≡ 8 → calls ≡ heldTable s
+unfolding heldTable
+all-held s k before all = before ∙ ap (λ (n : ℕ). heldFirst n s) all
+
+-- ---- whether the parts are records
+
+-- 168 bytes, and the first parts are records
+abbrev pub firstAre : ℕ → List ℕ → Bool
+firstAre zero s = eqb (length s) 168
+firstAre (suc k) s = firstAre k s && isRecord (recordAt (21 * k) s)
+
+first-more : (s : List ℕ) (k : ℕ) {b : Bool} → b ≡ isRecord (partOf k s) → firstAre (k + 1) s ≡ (firstAre k s && b)
+first-more s k is =
+    ap (λ (n : ℕ). firstAre n s) (add-one k)
+    ∙ sym (ap (λ (x : Bool). firstAre k s && x) (is ∙ ap (λ (z : List ℕ). isRecord z) (part-is k s)))
+
+-- where they are not, all are not
+first-other : (s : List ℕ) (k d m : ℕ) → m ≡ k + d → firstAre k s ≡ false → firstAre m s ≡ false
+first-other s k zero m is other = let n : m ≡ k = omega arith in ap (λ (x : ℕ). firstAre x s) n ∙ other
+first-other s k (suc d) m is other =
+    let n : m ≡ suc (k + d) = omega arith in
+    ap (λ (x : ℕ). firstAre x s) n
+    ∙ ap (λ (x : Bool). x && isRecord (recordAt (21 * (k + d)) s)) (first-other s k d (k + d) refl other)
+
+pub other-part : (s : List ℕ) (k : ℕ) {b : Bool} → k < 8 → b ≡ isRecord (partOf k s) → not b ≡ true → false ≡ isTable s
+unfolding isTable
+other-part s k {b} lt is other =
+    let here : firstAre (k + 1) s ≡ false =
+    first-more s k is ∙ ap (λ (x : Bool). firstAre k s && x) (not-true b other) ∙ and-false (firstAre k s) in
+    sym (first-other s (k + 1) (7 - k) 8 (omega arith) here)
+
+pub part-more : (s : List ℕ) (k : ℕ) {b : Bool} → b ≡ isRecord (partOf k s) → not b ≡ false → firstAre k s ≡ true → firstAre (k + 1) s ≡ true
+part-more s k {b} is so before = first-more s k is ∙ (λ i. before i && not-false b so i)
+
+pub all-parts : (s : List ℕ) (k : ℕ) → firstAre k s ≡ true → k ≡ 8 → true ≡ isTable s
+unfolding isTable
+all-parts s k before all = sym before ∙ ap (λ (n : ℕ). firstAre n s) all
 
 -- ---- the entry
 

@@ -18,28 +18,15 @@ fn is_table(s: &[u8]) -> bool
     if s.len() != 168 {
         return false;
     }
-    if !is_record(&s[0..21]) {
-        return false;
+    let mut k = 0;
+    while k < 8 {
+        let at = 21 * k;
+        if !is_record(&s[at..at + 21]) {
+            return false;
+        }
+        k += 1;
     }
-    if !is_record(&s[21..42]) {
-        return false;
-    }
-    if !is_record(&s[42..63]) {
-        return false;
-    }
-    if !is_record(&s[63..84]) {
-        return false;
-    }
-    if !is_record(&s[84..105]) {
-        return false;
-    }
-    if !is_record(&s[105..126]) {
-        return false;
-    }
-    if !is_record(&s[126..147]) {
-        return false;
-    }
-    is_record(&s[147..168])
+    true
 }
 
 // The calls that a table's bytes hold.
@@ -47,16 +34,14 @@ fn held_table(s: &[u8]) -> [Call; 8]
     requires { ⌜ length (now s) ≡ 168 ⌝ }
     ensures { λ r. ⌜ r ≡ heldTable (now (s .entry)) ⌝ }
 {
-    [
-        held(&s[0..21]),
-        held(&s[21..42]),
-        held(&s[42..63]),
-        held(&s[63..84]),
-        held(&s[84..105]),
-        held(&s[105..126]),
-        held(&s[126..147]),
-        held(&s[147..168]),
-    ]
+    let mut calls = [Call::fresh(); 8];
+    let mut k = 0;
+    while k < 8 {
+        let at = 21 * k;
+        calls[k] = held(&s[at..at + 21]);
+        k += 1;
+    }
+    calls
 }
 
 // Eight calls into a table's bytes.
@@ -64,14 +49,12 @@ fn pack_table(calls: [Call; 8], s: &mut [u8])
     requires { ⌜ length (now s) ≡ 168 ⌝ }
     ensures { λ _. ⌜ now (s .exit) ≡ packedInto calls (now (s .entry)) ⌝ }
 {
-    pack(calls[0], &mut s[0..21]);
-    pack(calls[1], &mut s[21..42]);
-    pack(calls[2], &mut s[42..63]);
-    pack(calls[3], &mut s[63..84]);
-    pack(calls[4], &mut s[84..105]);
-    pack(calls[5], &mut s[105..126]);
-    pack(calls[6], &mut s[126..147]);
-    pack(calls[7], &mut s[147..168]);
+    let mut k = 0;
+    while k < 8 {
+        let at = 21 * k;
+        pack(calls[k], &mut s[at..at + 21]);
+        k += 1;
+    }
 }
 
 // Writes eight fresh records; answer 1 where the table has not 168 bytes.

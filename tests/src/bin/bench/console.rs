@@ -3,14 +3,18 @@
 //!
 //! The account is measured behind the same interface as the library (168 packed bytes in and out) and
 //! once more with the eight calls kept as structs. Rounds alternate, and the best of each counts.
+//! Then the events of the tape by where they go, each from the table it met on the tape.
 
-use callcontrol_tests::account::console::{self, Console, TABLE_LEN};
+use callcontrol_tests::account::console::{self, Console, Goes, TABLE_LEN};
+use callcontrol_tests::account::Event;
 use callcontrol_tests::library;
 use callcontrol_tests::tape::{console_tape, ConsoleTape, CONSOLE_OUT_LEN, EVENTS};
 use std::hint::black_box;
 use std::time::Instant;
 
 const ROUNDS: usize = 100;
+/// Turns of one kind: as many tables as the processor keeps at hand.
+const TURNS: usize = 1000;
 
 /// What a run over the tape gave, so that no one can leave out the work.
 #[derive(Clone, Copy, Debug, PartialEq, Eq)]
@@ -99,4 +103,70 @@ pub fn main() {
     }
     println!("  {:<34}{:>8.2}", "ratio library / account, packed", best[0] / best[1]);
     println!("  {:<34}{:>8.2}", "ratio library / account, structs", best[0] / best[2]);
+
+    println!("by where the event goes, ns per step and ratio:");
+    println!("  {:<34}{:>8}{:>10}{:>10}{:>8}", "", "on tape", "library", "packed", "ratio");
+    for (kind, turns, on_tape) in kinds(&tape) {
+        let expected = replay(&turns, account_step);
+        let mut best = [f64::INFINITY; 2];
+        for _ in 0..ROUNDS {
+            let start = Instant::now();
+            assert_eq!(replay(black_box(&turns), library::console::step), expected, "{kind}");
+            best[0] = best[0].min(start.elapsed().as_nanos() as f64 / turns.len() as f64);
+            let start = Instant::now();
+            assert_eq!(replay(black_box(&turns), account_step), expected, "{kind}");
+            best[1] = best[1].min(start.elapsed().as_nanos() as f64 / turns.len() as f64);
+        }
+        let [library, packed] = best;
+        println!("  {kind:<34}{on_tape:>8}{library:>10.1}{packed:>10.1}{:>8.2}", library / packed);
+    }
+}
+
+/// An event with the table that it met on the tape.
+struct Turn<'a> {
+    table: [u8; TABLE_LEN],
+    place: u8,
+    event: &'a [u8],
+}
+
+/// The table is put back before each call; that takes each side the same.
+fn replay(turns: &[Turn], step: impl Fn(&mut [u8], u8, &[u8], &mut [u8]) -> u32) -> u64 {
+    let mut out = [0; CONSOLE_OUT_LEN];
+    turns.iter().fold(0, |words: u64, turn| {
+        let mut table = turn.table;
+        let word = step(&mut table, turn.place, turn.event, black_box(&mut out));
+        black_box(&table);
+        words.wrapping_mul(31).wrapping_add(u64::from(word))
+    })
+}
+
+/// The first turns of each kind, and how many the tape has.
+fn kinds(tape: &ConsoleTape) -> [(&'static str, Vec<Turn<'_>>, usize); 5] {
+    let mut kinds = [
+        "to the place named",
+        "to the holder of an identifier",
+        "to an IDLE place, or refused",
+        "BREAK and RESUME",
+        "unreadable",
+    ]
+    .map(|kind| (kind, Vec::new(), 0));
+    let mut table = Console::FRESH.pack();
+    for (place, event) in tape.events() {
+        let kind = match Event::read(event) {
+            Err(_) => 4,
+            Ok(Event::SetupRequest { .. } | Event::DSetup { .. }) => 2,
+            Ok(read) => match Console::FRESH.goes(0, read) {
+                Ok(Goes::ToAllThatTakeIt) => 3,
+                Ok(Goes::To(_)) => 0,
+                Err(_) => 1,
+            },
+        };
+        let (_, turns, on_tape) = &mut kinds[kind];
+        *on_tape += 1;
+        if turns.len() < TURNS {
+            turns.push(Turn { table, place, event });
+        }
+        console::step(&mut table, place, event, &mut [0; CONSOLE_OUT_LEN]);
+    }
+    kinds
 }

@@ -16,11 +16,11 @@ cast-place-step c = search needs
 place-step-requires : tie.Need-place-step-requires
 place-step-requires c κs = search needs
 
-mul-after : tie.Need-mul-after
-mul-after c = search needs
+mul-table : tie.Need-mul-table
+mul-table c = search needs
 
-array-set-from-after : tie.Need-array-set-from-after
-array-set-from-after c = search needs
+array-set-from-table : tie.Need-array-set-from-table
+array-set-from-table c = search needs
 
 same-length : tie.Need-same-length
 same-length c = search needs
@@ -37,7 +37,7 @@ at-place-spec =
     array-copy-out-place-step
     cast-place-step
     place-step-requires
-    mul-after
-    array-set-from-after
+    mul-table
+    array-set-from-table
     same-length
     returns)

@@ -1,28 +1,64 @@
 -- No place, no room, or all.
-use Rattle.console.proofs.Everywhere.{none-takes, no-space, space, all-take}
+use mathlib.Core.Path.{_≡_}
+use native.Mathlib.Omega.{arith}
+use lib.ListN.{length}
+use Rattle.console.proofs.Everywhere.{own-room, own-fits, front-size, front-within, none-takes, no-space, all-take}
 use borrow.Author.Needs.{needs}
 use Rattle.console.proofs.console.everywhere.Statement.{statement}
 use Rattle.console.proofs.console.everywhere.Tie as tie
 
-count-all-requires : tie.Need-count-all-requires
-count-all-requires c κs = search needs
+own-buffer-requires : tie.Need-own-buffer-requires
+own-buffer-requires c κs = search needs
 
-returns : tie.Need-returns
-returns c = none-takes _ _ _ (c .before .before .count-all .ensures) (c .if1 .taken)
-
-returns-2 : tie.Need-returns-2
-returns-2 c = no-space _ _ _ (c .before .before .before .count-all .ensures) (c .before .if1 .left) (c .if2 .taken)
+slice-aggregate-put-all : tie.Need-slice-aggregate-put-all
+slice-aggregate-put-all c = search needs
 
 put-all-requires : tie.Need-put-all-requires
-put-all-requires c κs = (c .before .before .before .before .before .before .pre, space _ _ (c .before .before .before .before .before .before .args .buffer .now) (c .before .before .before .before .count-all .ensures) (c .before .if2 .left))
+put-all-requires c κs = (c .before .before .before .pre, own-room (c .before .before .before .args .calls) (c .before .before .before .args .event) (c .before .own-buffer .result) (search needs) (c .before .own-buffer .ensures))
+
+returns : tie.Need-returns
+returns c = none-takes _ _ _ (c .before .before .before .put-all .ensures) (c .if1 .taken)
+
+returns-2 : tie.Need-returns-2
+returns-2 c = no-space _ _ _ (c .before .before .before .before .put-all .ensures) (c .before .if1 .left) (c .if2 .taken)
+
+array-share-prefix-own : tie.Need-array-share-prefix-own
+array-share-prefix-own c =
+    let p = c .before .before .before .before in
+    own-fits (p .before .before .before .before .args .calls) (p .before .before .before .before .args .event) (p .put-all .ensures) (search needs) (p .before .before .own-buffer .ensures)
+
+slice-aggregate-copy : tie.Need-slice-aggregate-copy
+slice-aggregate-copy c =
+    let p = c .before .before .before .before .before in
+    front-size _ _ (own-fits (p .before .before .before .before .args .calls) (p .before .before .before .before .args .event) (p .put-all .ensures) (search needs) (p .before .before .own-buffer .ensures))
+
+copy-requires : tie.Need-copy-requires
+copy-requires c κs =
+    let p = c .before .before .before .before .before .before in
+    let fits = own-fits (p .before .before .before .before .args .calls) (p .before .before .before .before .args .event) (p .put-all .ensures) (search needs) (p .before .before .own-buffer .ensures) in
+    front-within _ _ (p .before .before .before .before .args .buffer .now) fits (c .before .before .if2 .left)
 
 same-length : tie.Need-same-length
 same-length c = search needs
 
 returns-3 : tie.Need-returns-3
-returns-3 c = all-take _ _ _ (c .before .before .before .before .before .before .before .count-all .ensures) (c .before .before .before .before .before .if1 .left) (c .before .before .before .before .if2 .left) (c .before .before .put-all .ensures)
+returns-3 c =
+    let l = c .before .before .before .before .before .before in
+    let p = l .before .before .before .before in
+    let fits = own-fits (p .before .before .before .before .args .calls) (p .before .before .before .before .args .event) (p .put-all .ensures) (search needs) (p .before .before .own-buffer .ensures) in
+    all-take _ _ _ (p .put-all .ensures) (l .before .if1 .left) (l .if2 .left) fits (c .before .before .before .copy .ensures .1)
 
 pub everywhere-spec : {M : Type 1} → statement M
 everywhere-spec =
     tie.close
-    (tie.spec count-all-requires returns returns-2 put-all-requires same-length returns-3)
+    (tie.spec
+    own-buffer-requires
+    slice-aggregate-put-all
+    put-all-requires
+    returns
+    returns-2
+    array-share-prefix-own
+    slice-aggregate-copy
+    copy-requires
+    same-length
+    returns-3)

@@ -7,10 +7,10 @@ use Rattle.console.proofs.console.put_all.Statement.{statement}
 use Rattle.console.proofs.console.put_all.Tie as tie
 
 abbrev Inv-loop : tie.InvT-loop
-Inv-loop event buffer₀ after₀ at₀ k₀ buffer after at k = Putting event buffer₀ after₀ buffer after at k
+Inv-loop event buffer₀ after₀ taken₀ at₀ k₀ buffer after taken at k = Putting event buffer₀ after₀ buffer after taken at k
 
 abbrev μ-loop : tie.MeasureT-loop
-μ-loop event buffer₀ after₀ at₀ k₀ buffer after at k = 8 - k
+μ-loop event buffer₀ after₀ taken₀ at₀ k₀ buffer after taken at k = 8 - k
 
 loop-holds : tie.Need-loop-holds Inv-loop μ-loop
 loop-holds c = put-none (search needs) (c .before .pre .1)
@@ -42,8 +42,14 @@ mul-after c = omega arith
 array-set-from-after : tie.Need-array-set-from-after Inv-loop μ-loop
 array-set-from-after c = omega arith
 
+answer-number-requires : tie.Need-answer-number-requires Inv-loop μ-loop
+answer-number-requires c κs = search needs
+
 add-at : tie.Need-add-at Inv-loop μ-loop
-add-at c = omega (arith, same-room (c .before .before .before .before .before .before .before .before .loop .inv), count-within (c .before .before .before .before .before .before .before .before .loop .inv) (c .before .before .before .before .before .before .before .loop-test .taken) (c .before .before .before .before .before .before .before .before .before .before .pre .0) (c .before .before .before .before .place-step .ensures))
+add-at c =
+    let s = c .before .before .before .before .before in
+    let l = s .before .before .before .before in
+    omega (arith, same-room (l .loop .inv), count-within (l .loop .inv) (s .before .before .before .loop-test .taken) (l .before .before .pre .0) (s .place-step .ensures))
 
 add-k : tie.Need-add-k Inv-loop μ-loop
 add-k c = omega arith
@@ -52,7 +58,10 @@ loop-less : tie.Need-loop-less Inv-loop μ-loop
 loop-less c = omega arith
 
 loop-again : tie.Need-loop-again Inv-loop μ-loop
-loop-again c = put-more (c .before .before .before .before .before .before .before .before .loop .inv) (c .before .before .before .before .before .before .before .loop-test .taken) (c .before .before .before .before .before .before .before .before .before .before .pre .0) (c .before .before .before .before .place-step .ensures)
+loop-again c =
+    let s = c .before .before .before .before .before in
+    let l = s .before .before .before .before in
+    put-more (l .loop .inv) (s .before .before .before .loop-test .taken) (l .before .before .pre .0) (s .place-step .ensures) (c .before .answer-number .ensures .0)
 
 same-length : tie.Need-same-length Inv-loop μ-loop
 same-length c = same-room (c .before .loop .inv)
@@ -76,6 +85,7 @@ put-all-spec =
     place-step-requires
     mul-after
     array-set-from-after
+    answer-number-requires
     add-at
     add-k
     loop-less
