@@ -53,8 +53,8 @@ extern "C" {
 /* ---- Answers ------------------------------------------------------------------------------- */
 
 /*
- * The lowest number that applies is given, but that 8 comes after 6 and before 7. A refusal counts
- * 0 bytes and changes no byte.
+ * The lowest number that applies is given, but that 8 comes after 6 and before 7, and a console's
+ * 40 to 43 between 4 and 5. A refusal counts 0 bytes and changes no byte.
  */
 enum callcontrol_answer {
     CALLCONTROL_TAKEN = 0,        /* taken; bytes written are counted */
@@ -62,7 +62,7 @@ enum callcontrol_answer {
     CALLCONTROL_BAD_LENGTH = 2,   /* under 4 bytes, or the length field differs from them */
     CALLCONTROL_UNKNOWN_KIND = 3, /* no event kind (for messages: no message kind) */
     CALLCONTROL_BAD_BODY = 4,     /* body size or a field out of range */
-    CALLCONTROL_OTHER_CALL = 5,   /* a network event whose identifier is not the held one */
+    CALLCONTROL_OTHER_CALL = 5,   /* a network event whose identifier is not the held one; of a console: no place fits */
     CALLCONTROL_NO_ROW = 6,       /* nothing is foreseen for this event in this state */
     CALLCONTROL_NO_ROOM = 7,      /* the messages are longer than the lent buffer */
     CALLCONTROL_OWN_TRANSMISSION = 8, /* D-INFO in plane 1 or 3; after 6 and before 7 */
@@ -259,13 +259,17 @@ uint32_t callcontrol_console_fresh(uint8_t *table, size_t table_len);
 /*
  * Takes one event for a console of eight calls. The table is eight records one after the other.
  * SETUP response, RELEASE, TX and MODIFY request, the REPORTs and expiry are for the place that is
- * named, 0 to 7; any other event finds its place itself, and place is not looked at. What a place
- * orders follows a record CALLCONTROL_PLACE with its number, places rising; a place that orders
- * nothing has none. A refusal leaves table and out byte for byte. BREAK and RESUME reach every
+ * named, 0 to 7; any other event finds its place itself, and place is not looked at: SETUP request
+ * and D-SETUP go to the lowest IDLE place, other network events to the place outside IDLE that holds
+ * their identifier, else to the one that has none. What a place orders follows a record
+ * CALLCONTROL_PLACE with its number, places rising; a place that orders nothing has none. Each place
+ * has its own timers: keep a set (or a bank) for each, and hand in an expiry, and the REPORT of a
+ * PDU, with the place that ordered it. A refusal leaves table and out byte for byte. BREAK and RESUME reach every
  * place that would take them, or, where out is too short for all, none: lend
  * CALLCONTROL_CONSOLE_MAX bytes, and 7 never comes back on a table that callcontrol_console_fresh
  * wrote and only this function changed since. Answer 1: the bytes are not eight records, one is not
- * sound, two hold one identifier above 0, or two outside IDLE hold none; 5: no place fits.
+ * sound, two hold one identifier above 0, or two outside IDLE hold none; 5: no place fits; 6 to
+ * BREAK or RESUME: no place would take it.
  */
 uint32_t callcontrol_console_step(uint8_t *table, size_t table_len, uint8_t place,
                                   const uint8_t *event, size_t event_len,
