@@ -1,4 +1,4 @@
--- What holds of every run of the console from eight fresh records, as types. proofs/Demands, Answering, Heard and Timers have a proof of each.
+-- What holds of every run of the console from eight fresh records, and some of it of every table, as types. proofs/Demands, Answering, Heard and Timers have a proof of each.
 use Prim.Native.Nat.{ℕ, _<_, _≤_}
 use mathlib.Core.Path.{_≡_}
 use mathlib.Core.Bool.{Bool, true, false, cond, not}

@@ -31,7 +31,7 @@ pub struct AllStepped {
     pub calls: [Call; 8],
 }
 
-// The answer, the place that comes with 4, the count of bytes written and the eight records.
+// The answer, the place that comes with 4 (an offset in the record, never one of the eight), the count of bytes written and the eight records.
 pub struct ConsoleStepped {
     pub answer: ConsoleAnswer,
     pub place: u8,

@@ -6,7 +6,7 @@ ghost use Rattle.callcontrol.specs.Call.{isIdle, sound};
 ghost use Rattle.console.specs.Table.{callAt, holds, alike, some?, every?, apart, tableSound, lowest};
 use callcontrol::call::Call;
 
-// Outside IDLE with an identifier; 0 stands for none.
+// Outside IDLE with this identifier; 0 stands for none.
 fn holds(call: Call, id: u16) -> bool
     ensures { λ r. ⌜ r ≡ holds id call ⌝ }
 {
@@ -20,7 +20,7 @@ fn alike(a: Call, b: Call) -> bool
     (a.id == b.id) & ((1 <= a.id) | (!a.is_idle() & !b.is_idle()))
 }
 
-// The lowest place outside IDLE with an identifier, 8 where there is none.
+// The lowest place outside IDLE with this identifier, 8 where there is none.
 pub fn holder(calls: [Call; 8], id: u16) -> usize
     ensures { λ r. ⌜ r ≡ lowest (holds id) calls ⌝ }
 {
@@ -64,7 +64,7 @@ fn all_sound(calls: [Call; 8]) -> bool
     true
 }
 
-// Whether a place behind the first k is like a record.
+// Whether a place from a number on is like a record.
 fn like_behind(calls: [Call; 8], call: Call, from: usize) -> bool
     requires { ⌜ from ≤ 8 ⌝ }
     ensures { λ r. ⌜ r ≡ some? (alike call) (drop from calls) ⌝ }

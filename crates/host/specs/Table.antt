@@ -1,10 +1,9 @@
 -- The console's entries: what each returns, and what it leaves in the lent slices. A table is eight records one after the other.
-use Prim.Native.Nat.{ℕ, _*_}
+use Prim.Native.Nat.{ℕ}
 use mathlib.Core.Bool.{Bool, cond, _&&_}
 use mathlib.Core.List.{List, [], _∷_}
-use mathlib.Core.Option.{Option, none, some}
 use lib.Dec.{eqb}
-use lib.ListN.{length, take, drop, getD}
+use lib.ListN.{length, take, drop}
 use lib.Seq.{sets}
 use Rattle.callcontrol.specs.declared.call.Call.{Call}
 use Rattle.console.specs.Table.{callAt, freshTable}
