@@ -8,6 +8,9 @@
  * any number of calls can be run side by side. Bytes that may be written must not overlap other
  * bytes handed to the same function. Pointers must not be null, also where the length is 0.
  *
+ * The library is an archive for each product, and each function says at its end which have it:
+ * libhost.a for a set with one call, and libhost_console.a, linked beside it, for a console.
+ *
  * Every function but callcontrol_pieces_next returns answer * 2^24 + place * 2^16 + count of bytes
  * written. With answer 4 of a reader the place says what is wrong: the offset of the first bad field
  * from the first byte of the record, or 2 where the size of the body is wrong. With every other answer
@@ -239,7 +242,7 @@ enum callcontrol_message_kind {
  * Writes the fresh record (IDLE) and counts 21; answer 1 and nothing written if record_len is
  * not 21.
  */
-uint32_t callcontrol_fresh(uint8_t *record, size_t record_len);
+uint32_t callcontrol_fresh(uint8_t *record, size_t record_len); /* in libhost.a */
 
 /*
  * Takes one event: rewrites the record, writes the messages it orders to the front of out, one
@@ -249,12 +252,12 @@ uint32_t callcontrol_fresh(uint8_t *record, size_t record_len);
  */
 uint32_t callcontrol_step(uint8_t *record, size_t record_len,
                           const uint8_t *event, size_t event_len,
-                          uint8_t *out, size_t out_len);
+                          uint8_t *out, size_t out_len); /* in libhost.a */
 
 /*
  * Writes eight fresh records and counts 168; answer 1 and nothing written if table_len is not 168.
  */
-uint32_t callcontrol_console_fresh(uint8_t *table, size_t table_len);
+uint32_t callcontrol_console_fresh(uint8_t *table, size_t table_len); /* in libhost_console.a */
 
 /*
  * Takes one event for a console of eight calls. The table is eight records one after the other.
@@ -273,19 +276,19 @@ uint32_t callcontrol_console_fresh(uint8_t *table, size_t table_len);
  */
 uint32_t callcontrol_console_step(uint8_t *table, size_t table_len, uint8_t place,
                                   const uint8_t *event, size_t event_len,
-                                  uint8_t *out, size_t out_len);
+                                  uint8_t *out, size_t out_len); /* in libhost_console.a */
 
 /* Reads one event record: answer 0, 2, 3 or 4 with its place, count 0. */
-uint32_t callcontrol_check_event(const uint8_t *bytes, size_t len);
+uint32_t callcontrol_check_event(const uint8_t *bytes, size_t len); /* in libhost.a */
 
 /* Reads one message record: answer 0, 2, 3 or 4 with its place, count 0. */
-uint32_t callcontrol_check_message(const uint8_t *bytes, size_t len);
+uint32_t callcontrol_check_message(const uint8_t *bytes, size_t len); /* in libhost.a */
 
 /* Reads one event record and writes it back to out: answer 0 with its length, or 2, 3, 4 or 7. */
-uint32_t callcontrol_copy_event(const uint8_t *bytes, size_t len, uint8_t *out, size_t out_len);
+uint32_t callcontrol_copy_event(const uint8_t *bytes, size_t len, uint8_t *out, size_t out_len); /* in libhost.a */
 
 /* Reads one message record and writes it back to out: answer 0 with its length, or 2, 3, 4 or 7. */
-uint32_t callcontrol_copy_message(const uint8_t *bytes, size_t len, uint8_t *out, size_t out_len);
+uint32_t callcontrol_copy_message(const uint8_t *bytes, size_t len, uint8_t *out, size_t out_len); /* in libhost.a */
 
 /* The answer in a result of any function here. */
 static inline unsigned int callcontrol_answer_of(uint32_t result)
@@ -327,7 +330,7 @@ enum callcontrol_where {
  * Makes a reader fresh, or resets it: nothing is carried and it is not stopped. Counts its 2
  * bytes; answer 1 and nothing written if reader_len is not 2.
  */
-uint32_t callcontrol_pieces_fresh(uint8_t *reader, size_t reader_len);
+uint32_t callcontrol_pieces_fresh(uint8_t *reader, size_t reader_len); /* in libhost.a */
 
 /*
  * Takes a piece of any length, also 0, and hands on the first record that ends in it, as the first
@@ -339,7 +342,7 @@ uint32_t callcontrol_pieces_fresh(uint8_t *reader, size_t reader_len);
  */
 uint32_t callcontrol_pieces_next(uint8_t *reader, size_t reader_len,
                                  uint8_t *carry, size_t carry_len,
-                                 const uint8_t *piece, size_t piece_len);
+                                 const uint8_t *piece, size_t piece_len); /* in libhost.a */
 
 /* Where the record is, one of enum callcontrol_where. */
 static inline unsigned int callcontrol_where_of(uint32_t result)
@@ -391,10 +394,10 @@ enum callcontrol_length {
  * Makes a bank in which no timer runs, with a first reading of the counter, and counts 39; answer
  * 1 and nothing written if bank_len is not 39.
  */
-uint32_t callcontrol_bank_new(uint8_t *bank, size_t bank_len, uint32_t reading);
+uint32_t callcontrol_bank_new(uint8_t *bank, size_t bank_len, uint32_t reading); /* in libhost.a */
 
 /* STOP: the timer no longer runs, if it ran. Answer 0, 1 or 30, count 0. */
-uint32_t callcontrol_bank_stop(uint8_t *bank, size_t bank_len, uint16_t timer);
+uint32_t callcontrol_bank_stop(uint8_t *bank, size_t bank_len, uint16_t timer); /* in libhost.a */
 
 /*
  * START: the timer runs from the last accepted reading on for its length in the table, anew if it
@@ -403,7 +406,7 @@ uint32_t callcontrol_bank_stop(uint8_t *bank, size_t bank_len, uint16_t timer);
  */
 uint32_t callcontrol_bank_start(uint8_t *bank, size_t bank_len,
                                 const uint32_t *lengths, size_t lengths_len,
-                                uint16_t timer, uint8_t code);
+                                uint16_t timer, uint8_t code); /* in libhost.a */
 
 /*
  * A new reading: writes the numbers of all timers then due to the front of due, the earliest
@@ -412,7 +415,7 @@ uint32_t callcontrol_bank_start(uint8_t *bank, size_t bank_len,
  * long enough, and after 33 the reading counts as not made.
  */
 uint32_t callcontrol_bank_advance(uint8_t *bank, size_t bank_len, uint32_t reading,
-                                  uint16_t *due, size_t due_len);
+                                  uint16_t *due, size_t due_len); /* in libhost.a */
 
 #ifdef __cplusplus
 }

@@ -1,9 +1,9 @@
 #!/bin/sh
-# Builds the library for the machine at hand, into target/at-hand/libhost.a, and runs a command that uses it: for tests and the benchmark
-# only. The library that is shipped is the one in target/staticlib.
+# Builds the library for the machine at hand, each archive into target/at-hand/libNAME.a, and runs a command that uses it: for tests and the
+# benchmark only. The library that is shipped is the one in target/staticlib.
 #
-# The code is that of the proved library: while rt proves and builds it, the module that it hands to its compiler is kept; the same compiler
-# then compiles that module with the same options, but for this machine.
+# The code is that of the proved library: while rt proves and builds an archive, the module that it hands to its compiler is kept; the same
+# compiler then compiles that module with the same options, but for this machine.
 # Use: tests/at_hand.sh [COMMAND ..], as in
 #   tests/at_hand.sh cargo run --release --offline --manifest-path tests/Cargo.toml --bin bench
 set -e
@@ -32,23 +32,27 @@ printf '%s\n' "\$@" >"$made/options"
 exec "$own/toolchain/bin/clang" "\$@"
 CLANG
 chmod +x "$made/kit/on/$machine/toolchain/bin/clang"
-(cd "$root" && RATTLE_HOME=$made/kit rt staticlib host) >"$made/log" 2>&1 || {
-    cat "$made/log" >&2
-    exit 1
-}
+for name in $("$root/tests/archives.sh"); do
+    cd "$root"
+    RATTLE_HOME=$made/kit rt staticlib "$name" >"$made/log" 2>&1 || {
+        cat "$made/log" >&2
+        exit 1
+    }
 
-cd "$made"
-while IFS= read -r option; do
-    case $option in
-    --target=*) option=--target=$machine-unknown-linux-gnu ;;
-    -march=*) [ "$machine" = x86_64 ] || continue ;;
-    esac
-    printf '%s\n' "$option"
-done <options >options.here
-# The module names the machine that it was made for.
-echo -Wno-override-module >>options.here
-xargs -d '\n' "$own/toolchain/bin/clang" <options.here
-"$own/toolchain/bin/llvm-ar" rcs libhost.a module.o
+    cd "$made"
+    while IFS= read -r option; do
+        case $option in
+        --target=*) option=--target=$machine-unknown-linux-gnu ;;
+        -march=*) [ "$machine" = x86_64 ] || continue ;;
+        esac
+        printf '%s\n' "$option"
+    done <options >options.here
+    # The module names the machine that it was made for.
+    echo -Wno-override-module >>options.here
+    xargs -d '\n' "$own/toolchain/bin/clang" <options.here
+    "$own/toolchain/bin/llvm-ar" rcs "lib$name.a" module.o
+    rm -f module.bc module.o options
+done
 rm -rf kit
 
 cd "$root"

@@ -1,11 +1,14 @@
-//! Gives every test the library as its host gets it: one static archive, nothing else.
+//! Gives every test the library as its host gets it: static archives, nothing else.
 //!
-//! Where the archive holds code of this machine it is linked. Elsewhere a small program, the
-//! bridge, is linked with it, and the tests call the library through that.
+//! Where the archives hold code of this machine they are linked. Elsewhere a small program, the
+//! bridge, is linked with them, and the tests call the library through that.
 
 use std::path::{Path, PathBuf};
 use std::process::Command;
 use std::{env, fs, process};
+
+/// The archives that the tests link, all into one program: each has names of its own.
+const ARCHIVES: [&str; 2] = ["host", "host_console"];
 
 fn main() {
     println!("cargo:rustc-check-cfg=cfg(bridged)");
@@ -17,19 +20,11 @@ fn main() {
         Some(folder) => PathBuf::from(folder),
         None => manifest.join("../target/staticlib"),
     };
-    let archive = folder.join("libhost.a");
-    println!("cargo:rerun-if-changed={}", archive.display());
-    if !archive.is_file() {
-        stop(&format!(
-            "{} is missing.\n  Run `rt staticlib host` in the repository root first,\n  \
-             or name the folder that holds libhost.a in CALLCONTROL_LIB_DIR.",
-            archive.display()
-        ));
-    }
-    let archive = archive.canonicalize().expect("it was just seen");
-    println!("cargo:rustc-env=CALLCONTROL_ARCHIVE={}", archive.display());
+    let archives = ARCHIVES.map(|name| archive(&folder, name));
+    let paths = archives.each_ref().map(|archive| archive.display().to_string());
+    println!("cargo:rustc-env=CALLCONTROL_ARCHIVES={}", paths.join(":"));
 
-    let own = machine_of(&archive) == this_machine();
+    let own = machine_of(&archives[0]) == this_machine();
     let (cc, cxx, emulator) = match own {
         true => ("gcc", "g++", ""),
         false => ("x86_64-linux-gnu-gcc", "x86_64-linux-gnu-g++", "qemu-x86_64"),
@@ -39,22 +34,38 @@ fn main() {
     println!("cargo:rustc-env=CALLCONTROL_EMULATOR={emulator}");
 
     if own && env::var_os("CALLCONTROL_BRIDGE").is_none() {
-        let folder = archive.parent().expect("a file lies in a folder");
+        let folder = archives[0].parent().expect("a file lies in a folder");
         println!("cargo:rustc-link-search=native={}", folder.display());
-        println!("cargo:rustc-link-lib=static=host");
+        for name in ARCHIVES {
+            println!("cargo:rustc-link-lib=static={name}");
+        }
     } else {
         for tool in [cc, emulator] {
             if !tool.is_empty() && Command::new(tool).arg("--version").output().is_err() {
                 stop(&format!("{tool} is missing.\n  {}", what_to_install(own)));
             }
         }
-        let program = build_bridge(cc, &manifest, &archive, own);
+        let program = build_bridge(cc, &manifest, &archives, own);
         println!("cargo:rustc-cfg=bridged");
         println!("cargo:rustc-env=CALLCONTROL_BRIDGE_PROGRAM={}", program.display());
     }
 }
 
-fn build_bridge(cc: &str, manifest: &Path, archive: &Path, own: bool) -> PathBuf {
+/// An archive of this name in this folder.
+fn archive(folder: &Path, name: &str) -> PathBuf {
+    let archive = folder.join(format!("lib{name}.a"));
+    println!("cargo:rerun-if-changed={}", archive.display());
+    if !archive.is_file() {
+        stop(&format!(
+            "{} is missing.\n  Run `tests/archives.sh build` first,\n  \
+             or name the folder that holds the archives in CALLCONTROL_LIB_DIR.",
+            archive.display()
+        ));
+    }
+    archive.canonicalize().expect("it was just seen")
+}
+
+fn build_bridge(cc: &str, manifest: &Path, archives: &[PathBuf], own: bool) -> PathBuf {
     let source = manifest.join("bridge/bridge.c");
     let include = manifest.join("../include");
     println!("cargo:rerun-if-changed={}", source.display());
@@ -64,7 +75,7 @@ fn build_bridge(cc: &str, manifest: &Path, archive: &Path, own: bool) -> PathBuf
         .args(["-std=c11", "-O2", "-Wall", "-Wextra", "-static", "-I"])
         .arg(include)
         .arg(source)
-        .arg(archive)
+        .args(archives)
         .arg("-o")
         .arg(&program)
         .output()

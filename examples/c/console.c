@@ -6,7 +6,7 @@
  * The host keeps two things: the 168 bytes of the table, and a buffer that it lends to each step.
  *
  *     gcc -std=c11 -Wall -Wextra -Werror -Iinclude examples/c/console.c \
- *         target/staticlib/libhost.a -o target/console
+ *         target/staticlib/libhost.a target/staticlib/libhost_console.a -o target/console
  */
 #include "callcontrol.h"
 

@@ -1,6 +1,6 @@
 //! The library under test, as its C host sees it: functions over lent bytes.
 //!
-//! Nothing here knows the paper. Where the archive holds code of this machine it is linked, and
+//! Nothing here knows the paper. Where the archives hold code of this machine they are linked, and
 //! the functions are called directly. Elsewhere the same functions go over a bridge: a small
 //! program for the library's machine, run by an emulator, that makes the calls.
 
@@ -29,8 +29,10 @@ pub use direct::callcontrol_step;
 /// Whether a call is so slow that many should be made at once, by [`perform`].
 pub const BRIDGED: bool = cfg!(bridged);
 
-/// The archive these functions are from.
-pub const ARCHIVE: &str = env!("CALLCONTROL_ARCHIVE");
+/// The archives these functions are from.
+pub fn archives() -> impl Iterator<Item = &'static str> {
+    env!("CALLCONTROL_ARCHIVES").split(':')
+}
 
 /// Splits a result into answer and count of bytes written.
 pub fn split(word: u32) -> (u32, u32) {

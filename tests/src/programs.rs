@@ -24,7 +24,7 @@ pub fn build(compiler: &str, arguments: &[&str], source: &str, program: &Path) -
     compile.args(arguments).arg("-I").arg(root().join("include"));
     compile.arg("-c").arg(root().join(source)).arg("-o").arg(&object);
     let mut link = Command::new(CC);
-    link.arg(object).arg(crate::library::ARCHIVE).arg("-o").arg(program);
+    link.arg(object).args(crate::library::archives()).arg("-o").arg(program);
     if !EMULATOR.is_empty() {
         // So that the emulator need not find the libraries of its machine.
         link.arg("-static");
@@ -52,6 +52,42 @@ pub fn stack_used(source: &str, tape: &[u8]) -> usize {
     }
     assert!(ran.status.success(), "{source}: {}", ran.status);
     ran.stdout.trim().parse().expect("it prints a number")
+}
+
+/// The code that a program has more for naming these functions of an archive, what it does not need dropped.
+pub fn code_of(archive: &str, functions: &[&str]) -> usize {
+    let is_it = |path: &&str| path.ends_with(&format!("/lib{archive}.a"));
+    let archive = crate::library::archives().find(is_it).expect("an archive of the tests");
+    text_of(&[], archive).abs_diff(text_of(functions, archive))
+}
+
+/// The bytes of code in a program that names these functions and calls none.
+fn text_of(functions: &[&str], archive: &str) -> usize {
+    let declared = functions.iter().map(|name| format!("void {name}(void);\n"));
+    let named = functions.iter().map(|name| format!("(void *){name}, "));
+    let source = format!(
+        "{}void *const volatile named[] = {{{}0}};\nint main(void) {{ return named[0] != 0; }}\n",
+        declared.collect::<String>(),
+        named.collect::<String>()
+    );
+    let program = env::temp_dir().join(format!("named-{}-{}", functions.len(), std::process::id()));
+    let file = program.with_extension("c");
+    std::fs::write(&file, source).expect("a file for the program");
+    let mut link = Command::new(CC);
+    link.args(["-std=c11", "-Os", "-ffunction-sections", "-fdata-sections", "-Wl,--gc-sections"]);
+    link.arg(&file).arg(archive).arg("-o").arg(&program);
+    let linked = link.output().unwrap_or_else(|error| panic!("{error}: {link:?}"));
+    assert!(linked.status.success(), "{}", String::from_utf8_lossy(&linked.stderr));
+    let mut size = Command::new(CC.replace("gcc", "size"));
+    let said = size.arg("-A").arg(&program).output();
+    let said = said.unwrap_or_else(|error| panic!("{error}: {size:?}"));
+    for file in [&program, &file] {
+        let _ = std::fs::remove_file(file);
+    }
+    let said = String::from_utf8_lossy(&said.stdout).into_owned();
+    let text =
+        said.lines().find_map(|line| line.strip_prefix(".text ")).expect("a section of code");
+    text.split_whitespace().next().and_then(|bytes| bytes.parse().ok()).expect("its bytes")
 }
 
 /// The bridge, under an emulator with these options; none where there is no emulator.

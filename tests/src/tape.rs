@@ -23,6 +23,16 @@ impl Tape {
             event
         })
     }
+
+    /// The events one after another, each after its length as u32: what a program of `bridge/` plays.
+    pub fn with_lengths(&self) -> Vec<u8> {
+        let mut bytes = Vec::new();
+        for event in self.events() {
+            bytes.extend((event.len() as u32).to_le_bytes());
+            bytes.extend(event);
+        }
+        bytes
+    }
 }
 
 /// Calls set up, granted, paused, broken, restored and released, one after another from fresh;

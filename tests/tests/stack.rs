@@ -10,12 +10,7 @@ fn a_step_uses_less_than_a_kibibyte_of_stack() {
         println!("not measured: this is not the library that is shipped, which is x86-64 code");
         return;
     }
-    let mut events = Vec::new();
-    for event in tape().events() {
-        events.extend((event.len() as u32).to_le_bytes());
-        events.extend(event);
-    }
-    let bytes = stack_used("tests/bridge/stack.c", &events);
+    let bytes = stack_used("tests/bridge/stack.c", &tape().with_lengths());
     println!("{bytes} bytes of stack");
     // A step that used next to nothing would not have been played.
     assert!((64..1024).contains(&bytes), "{bytes} bytes of stack");

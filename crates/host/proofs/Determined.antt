@@ -1,6 +1,6 @@
 -- For each entry two results that its promise allows are equal: each promise is an equation of the result and of every lent byte.
 use mathlib.Core.Path.{sym, _∙_}
-use Rattle.host.specs.Laws.{FreshDetermined, StepDetermined, CheckDetermined, CopyDetermined, ConsoleFreshDetermined, ConsoleStepDetermined}
+use Rattle.host.specs.Laws.{FreshDetermined, StepDetermined, CheckDetermined, CopyDetermined}
 use Rattle.records.specs.Events.{events}
 use Rattle.records.specs.Messages.{messages}
 
@@ -21,9 +21,3 @@ copy-event s out w₁ w₂ e₁ e₂ = e₁ ∙ sym e₂
 
 pub copy-message : CopyDetermined messages
 copy-message s out w₁ w₂ e₁ e₂ = e₁ ∙ sym e₂
-
-pub console-fresh : ConsoleFreshDetermined
-console-fresh s w₁ w₂ e₁ e₂ = e₁ ∙ sym e₂
-
-pub console-step : ConsoleStepDetermined
-console-step s place event out w₁ w₂ e₁ e₂ = e₁ ∙ sym e₂

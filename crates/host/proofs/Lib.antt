@@ -9,6 +9,3 @@ pub mod Packing
 pub mod Runs
 pub mod SerialLine
 pub mod Small
-pub mod TablePacking
-pub mod TableRuns
-pub mod Tables

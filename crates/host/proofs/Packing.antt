@@ -93,6 +93,10 @@ bytes-number (suc w) at s small =
 
 -- ---- the laws
 
+pub packed-length : (c : Call) → length (packed c) ≡ 21
+unfolding packed names settings running bytes
+packed-length c = refl
+
 pub is-record : (c : Call) → isRecord (packed c) ≡ true
 unfolding isRecord packed names settings running bytes
 is-record c = simp (state-small, path-small, flag-small)

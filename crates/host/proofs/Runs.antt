@@ -20,9 +20,8 @@ use Rattle.demands.proofs.Sound.{always}
 use Rattle.host.specs.Packing.{names, settings, running, packed, unpacked}
 use Rattle.host.specs.Entries.{Left, stepped, freshened, hostStep}
 use Rattle.host.specs.Runs.{hostRun, after, RunIsPacked, TurnIsStep, TurnReadsBack, PlaneByHistory}
-use Rattle.host.proofs.Packing.{sound-is-unpacked}
+use Rattle.host.proofs.Packing.{packed-length, sound-is-unpacked}
 use Rattle.host.proofs.Small.{step-small}
-use Rattle.host.proofs.Tables.{packed-length}
 
 -- over 21 bytes a packed record leaves none of them
 nothing-left : (s : List ℕ) → length s ≡ 21 → drop 21 s ≡ []

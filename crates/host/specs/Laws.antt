@@ -1,5 +1,4 @@
--- What holds of the packed record, of the packed table and of the entries' promises. The proofs are in proofs/Packing, proofs/TablePacking and
--- proofs/Determined.
+-- What holds of the packed record and of the entries' promises. The proofs are in proofs/Packing and proofs/Determined.
 use Prim.Native.Nat.{ℕ, _<_, _^_}
 use mathlib.Core.Path.{_≡_}
 use mathlib.Core.Bool.{true}
@@ -9,10 +8,8 @@ use lib.ListN.{length, getD}
 use Rattle.records.specs.Tables.{Table}
 use Rattle.callcontrol.specs.declared.call.Call.{Call}
 use Rattle.callcontrol.specs.Call.{sound}
-use Rattle.console.specs.Table.{callAt, tableSound}
 use Rattle.host.specs.Packing.{packed, isRecord, held, unpacked}
 use Rattle.host.specs.Entries.{Left, freshened, hostStep, checked, copied}
-use Rattle.host.specs.Table.{isTable, heldTable, packedInto, TableLeft, consoleFreshened, consoleHostStep}
 
 -- the numbers of more than one byte fit their places, and there are seven timers
 pub record Fitting (c : Call) : Type 0 where
@@ -31,26 +28,6 @@ SoundIsUnpacked = (c : Call) → sound c ≡ true → length (c .timers) ≡ 7 �
 abbrev pub HeldIsPacked : Type 0
 HeldIsPacked = (s : List ℕ) → ((i : ℕ) → getD s i 0 < 256) → isRecord s ≡ true → packed (held s) ≡ s
 
--- any records that are packed into any 168 bytes are a table
-abbrev pub PackedIsTable : Type 0
-PackedIsTable = (calls : List Call) (s : List ℕ) → length s ≡ 168 → isTable (packedInto calls s) ≡ true
-
--- and eight that fit are held as the same records
-abbrev pub PackedTableIsHeld : Type 0
-PackedTableIsHeld =
-    (calls : List Call) (s : List ℕ) →
-    length s ≡ 168 → length calls ≡ 8 → ((k : ℕ) → k < 8 → Fitting (callAt calls k)) → heldTable (packedInto calls s) ≡ calls
-
-abbrev pub SoundTableIsHeld : Type 0
-SoundTableIsHeld =
-    (calls : List Call) (s : List ℕ) →
-    length s ≡ 168 → tableSound calls ≡ true → ((k : ℕ) → k < 8 → length (callAt calls k .timers) ≡ 7) → heldTable (packedInto calls s) ≡ calls
-
--- what a table holds is packed as the same bytes, over itself as over any other 168
-abbrev pub HeldTableIsPacked : Type 0
-HeldTableIsPacked =
-    (s over : List ℕ) → ((i : ℕ) → getD s i 0 < 256) → isTable s ≡ true → length over ≡ 168 → packedInto (heldTable s) over ≡ s
-
 -- two results that an entry's promise allows are equal: the returned number with every byte of the slices that the entry may write
 
 abbrev pub FreshDetermined : Type 0
@@ -64,11 +41,3 @@ CheckDetermined t = (s : List ℕ) (r₁ r₂ : ℕ) → r₁ ≡ checked t s �
 
 abbrev pub CopyDetermined : Table → Type 0
 CopyDetermined t = (s out : List ℕ) (w₁ w₂ : ℕ × List ℕ) → w₁ ≡ copied t s out → w₂ ≡ copied t s out → w₁ ≡ w₂
-
-abbrev pub ConsoleFreshDetermined : Type 0
-ConsoleFreshDetermined = (s : List ℕ) (w₁ w₂ : ℕ × List ℕ) → w₁ ≡ consoleFreshened s → w₂ ≡ consoleFreshened s → w₁ ≡ w₂
-
-abbrev pub ConsoleStepDetermined : Type 0
-ConsoleStepDetermined =
-    (s : List ℕ) (place : ℕ) (event out : List ℕ) (w₁ w₂ : TableLeft) →
-    w₁ ≡ consoleHostStep s place event out → w₂ ≡ consoleHostStep s place event out → w₁ ≡ w₂

@@ -1,9 +1,7 @@
 pub mod Packing
 pub mod Entries
-pub mod Table
 pub mod Laws
 pub mod Runs
-pub mod TableRuns
 pub mod SerialLine
 pub mod Bank
 pub mod BankLaws

@@ -9,9 +9,8 @@ ghost use Rattle.records.specs.Messages.{messages, asMessageRead};
 ghost use Rattle.host.specs.Entries.{Left, freshened, hostStep, readWord, wroteWord, checked, copied};
 
 mod bank;
-mod packed;
+pub mod packed;
 mod serial;
-mod table;
 
 use crate::packed::held;
 use crate::packed::is_record;

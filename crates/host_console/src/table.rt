@@ -3,13 +3,13 @@ ghost use mathlib.Core.Path.{_≡_};
 ghost use mathlib.Core.List.{List};
 ghost use Prim.Native.Nat.{ℕ};
 ghost use lib.ListN.{length};
-ghost use Rattle.host.specs.Table.{TableLeft, isTable, heldTable, packedInto, consoleFreshened, consoleHostStep};
-use crate::packed::held;
-use crate::packed::is_record;
-use crate::packed::pack;
+ghost use Rattle.host_console.specs.Table.{TableLeft, isTable, heldTable, packedInto, consoleFreshened, consoleHostStep};
 use callcontrol::call::Call;
 use console::console::console_step;
 use console::route::console_number;
+use host::packed::held;
+use host::packed::is_record;
+use host::packed::pack;
 
 // Whether some bytes are eight records.
 fn is_table(s: &[u8]) -> bool

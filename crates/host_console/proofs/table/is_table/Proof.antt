@@ -5,11 +5,11 @@ use mathlib.Core.Bool.{true}
 use native.Mathlib.Omega.{arith}
 use borrow.Author.Tests.{eq-eqb, ne-eqb}
 use lib.ListN.{length}
-use Rattle.host.specs.Table.{isTable}
-use Rattle.host.proofs.Tables.{firstAre, other-part, part-more, all-parts}
+use Rattle.host_console.specs.Table.{isTable}
+use Rattle.host_console.proofs.Tables.{firstAre, other-part, part-more, all-parts}
 use borrow.Author.Needs.{needs}
-use Rattle.host.proofs.table.is_table.Statement.{statement}
-use Rattle.host.proofs.table.is_table.Tie as tie
+use Rattle.host_console.proofs.table.is_table.Statement.{statement}
+use Rattle.host_console.proofs.table.is_table.Tie as tie
 
 abbrev Inv-loop : tie.InvT-loop
 Inv-loop s k₀ k = (firstAre k s ≡ true) × (k ≤ 8) × (length s ≡ 168)

@@ -15,11 +15,11 @@ use Rattle.callcontrol.specs.declared.call.Call.{Call}
 use Rattle.console.specs.Table.{noCall, callAt}
 use Rattle.console.proofs.Tables.{eight-of, sound-at}
 use Rattle.demands.proofs.Facts.{left, right}
 use Rattle.host.specs.Packing.{packed, isRecord, held, unpacked}
-use Rattle.host.specs.Table.{recordAt, isTable, heldTable, packedAt, packedInto}
-use Rattle.host.specs.Laws.{PackedIsTable, PackedTableIsHeld, SoundTableIsHeld, HeldTableIsPacked}
-use Rattle.host.proofs.Packing.{items, items-drop, is-record, packed-is-unpacked, sound-is-unpacked, unpacked-is-held, held-is-packed}
-use Rattle.host.proofs.Tables.{packed-length, table-length}
+use Rattle.host_console.specs.Table.{recordAt, isTable, heldTable, packedAt, packedInto}
+use Rattle.host_console.specs.Laws.{PackedIsTable, PackedTableIsHeld, SoundTableIsHeld, HeldTableIsPacked}
+use Rattle.host.proofs.Packing.{items, items-drop, packed-length, is-record, packed-is-unpacked, sound-is-unpacked, unpacked-is-held, held-is-packed}
+use Rattle.host_console.proofs.Tables.{table-length}
 
 -- ---- the parts one after the other
 

@@ -17,13 +17,13 @@ use Rattle.console.proofs.Demands.{records, messages, good, never-unsound, refu
 use Rattle.console.proofs.Heard.{reads-back}
 use Rattle.console.proofs.Rooms.{console-few}
 use Rattle.console.proofs.Twins.{Good, good-fresh, good-next}
 use Rattle.host.specs.Packing.{packed}
 use Rattle.host.specs.Entries.{word}
-use Rattle.host.specs.Table.{packedInto, TableLeft, consoleLeft, consoleFreshened, consoleHostStep}
-use Rattle.host.specs.TableRuns.{tableTurn, tableRun, answered, TableIsPacked, PlaceIsPacked, TurnIsConsole, TurnNumbers, TurnMessages, TableReadsBack, TableNeverUnsound, TableEnough}
+use Rattle.host_console.specs.Table.{packedInto, TableLeft, consoleLeft, consoleFreshened, consoleHostStep}
+use Rattle.host_console.specs.Runs.{tableTurn, tableRun, answered, TableIsPacked, PlaceIsPacked, TurnIsConsole, TurnNumbers, TurnMessages, TableReadsBack, TableNeverUnsound, TableEnough}
 use Rattle.host.proofs.Packing.{items-drop, sound-is-unpacked}
-use Rattle.host.proofs.Small.{console-near}
-use Rattle.host.proofs.TablePacking.{part-at, into-length, over-any, packed-is-table, holds}
+use Rattle.host_console.proofs.Near.{console-near}
+use Rattle.host_console.proofs.Packing.{part-at, into-length, over-any, packed-is-table, holds}
 
 -- ---- one turn over the bytes of eight records that a run can have
 

@@ -13,8 +13,8 @@ use Rattle.console.specs.Table.{freshTable}
 use Rattle.console.specs.Console.{ConsoleOutcome}
 use Rattle.console.specs.Runs.{ConsoleTurn, consoleOutcome, consoleRun, framed}
 use Rattle.console.specs.Demands.{turnsAt}
 use Rattle.host.specs.Packing.{packed}
-use Rattle.host.specs.Table.{recordAt, packedInto, TableLeft, consoleLeft, consoleFreshened, consoleHostStep}
+use Rattle.host_console.specs.Table.{recordAt, packedInto, TableLeft, consoleLeft, consoleFreshened, consoleHostStep}
 
 -- one call of the entry
 abbrev pub tableTurn : List ℕ → ConsoleTurn → TableLeft

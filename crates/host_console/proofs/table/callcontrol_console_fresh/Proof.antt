@@ -1,9 +1,9 @@
 -- Eight fresh records, where there is room for them.
 use borrow.Author.Tests.{eq-eqb, ne-eqb}
-use Rattle.host.specs.Table.{consoleFreshened}
+use Rattle.host_console.specs.Table.{consoleFreshened}
 use borrow.Author.Needs.{needs}
-use Rattle.host.proofs.table.callcontrol_console_fresh.Statement.{statement}
-use Rattle.host.proofs.table.callcontrol_console_fresh.Tie as tie
+use Rattle.host_console.proofs.table.callcontrol_console_fresh.Statement.{statement}
+use Rattle.host_console.proofs.table.callcontrol_console_fresh.Tie as tie
 
 returns : tie.Need-returns
 unfolding consoleFreshened

@@ -10,20 +10,16 @@ use borrow.Rule.Slice.PartMut.{putMid}
 use lib.Dec.{eqb}
 use lib.ListN.{length, take, drop, set, length-drop, drop-of-length-le}
 use lib.Seq.{sets, sets-eq, length-sets, length-take-le, drop-drop}
-use Rattle.records.specs.Bytes.{bytes}
 use Rattle.callcontrol.specs.declared.call.Call.{Call}
 use Rattle.console.specs.Table.{callAt, freshTable}
 use Rattle.console.specs.Console.{ConsoleOutcome, consoleOf}
 use Rattle.demands.proofs.Facts.{left, right}
-use Rattle.host.specs.Packing.{names, settings, running, packed, isRecord, held}
+use Rattle.host.specs.Packing.{packed, isRecord, held}
+use Rattle.host.proofs.Packing.{packed-length}
 use Rattle.host.specs.Entries.{word}
-use Rattle.host.specs.Table.{recordAt, isTable, heldTable, packedAt, packedInto, TableLeft, consoleLeft, consoleHostStep}
+use Rattle.host_console.specs.Table.{recordAt, isTable, heldTable, packedAt, packedInto, TableLeft, consoleLeft, consoleHostStep}
 
 -- ---- a record into its part of the table
-
-pub packed-length : (c : Call) → length (packed c) ≡ 21
-unfolding packed names settings running bytes
-packed-length c = refl
 
 -- 21 bytes over 21 bytes leave the new ones
 whole-part : (l v : List ℕ) → length l ≡ 21 → length v ≡ 21 → sets l 0 v ≡ v

@@ -3,10 +3,10 @@ use Prim.Native.Nat.{_≤_, _-_}
 use mathlib.Core.Path.{_≡_}
 use native.Mathlib.Omega.{arith}
 use lib.ListN.{length}
-use Rattle.host.proofs.Tables.{heldFirst, hold-next, all-held}
+use Rattle.host_console.proofs.Tables.{heldFirst, hold-next, all-held}
 use borrow.Author.Needs.{needs}
-use Rattle.host.proofs.table.held_table.Statement.{statement}
-use Rattle.host.proofs.table.held_table.Tie as tie
+use Rattle.host_console.proofs.table.held_table.Statement.{statement}
+use Rattle.host_console.proofs.table.held_table.Tie as tie
 
 abbrev Inv-loop : tie.InvT-loop
 Inv-loop s calls₀ k₀ calls k = (calls ≡ heldFirst k s) × (k ≤ 8) × (length s ≡ 168)

@@ -2,9 +2,9 @@
 use native.Mathlib.Omega.{arith}
 use borrow.Author.Needs.{needs}
 use Rattle.console.proofs.Rooms.{console-few}
-use Rattle.host.proofs.Tables.{no-table, table-length, packs, leaves}
-use Rattle.host.proofs.table.callcontrol_console_step.Statement.{statement}
-use Rattle.host.proofs.table.callcontrol_console_step.Tie as tie
+use Rattle.host_console.proofs.Tables.{no-table, table-length, packs, leaves}
+use Rattle.host_console.proofs.table.callcontrol_console_step.Statement.{statement}
+use Rattle.host_console.proofs.table.callcontrol_console_step.Tie as tie
 
 pub callcontrol-console-step-spec : {M : Type 1} → statement M
 callcontrol-console-step-spec =

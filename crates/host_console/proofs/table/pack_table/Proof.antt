@@ -3,10 +3,10 @@ use Prim.Native.Nat.{_≤_, _-_}
 use mathlib.Core.Path.{_≡_, refl, sym, _∙_}
 use native.Mathlib.Omega.{arith}
 use lib.ListN.{length}
-use Rattle.host.proofs.Tables.{Packing, pack-next, all-packed}
+use Rattle.host_console.proofs.Tables.{Packing, pack-next, all-packed}
 use borrow.Author.Needs.{needs}
-use Rattle.host.proofs.table.pack_table.Statement.{statement}
-use Rattle.host.proofs.table.pack_table.Tie as tie
+use Rattle.host_console.proofs.table.pack_table.Statement.{statement}
+use Rattle.host_console.proofs.table.pack_table.Tie as tie
 
 abbrev Inv-loop : tie.InvT-loop
 Inv-loop s₀ calls k₀ s k = Packing calls s₀ k s × (k ≤ 8) × (length s ≡ 168) × (length s₀ ≡ 168) × (length calls ≡ 8)

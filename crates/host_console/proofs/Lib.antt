@@ -1,0 +1,5 @@
+pub mod Determined
+pub mod Near
+pub mod Packing
+pub mod Runs
+pub mod Tables

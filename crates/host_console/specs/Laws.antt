@@ -1,0 +1,40 @@
+-- What holds of the packed table and of the console entries' promises. The proofs are in proofs/Packing and proofs/Determined.
+use Prim.Native.Nat.{ℕ, _<_}
+use mathlib.Core.Path.{_≡_}
+use mathlib.Core.Bool.{true}
+use mathlib.Core.List.{List}
+use lib.ListN.{length, getD}
+use Rattle.callcontrol.specs.declared.call.Call.{Call}
+use Rattle.console.specs.Table.{callAt, tableSound}
+use Rattle.host.specs.Laws.{Fitting}
+use Rattle.host_console.specs.Table.{isTable, heldTable, packedInto, TableLeft, consoleFreshened, consoleHostStep}
+
+-- any records that are packed into any 168 bytes are a table
+abbrev pub PackedIsTable : Type 0
+PackedIsTable = (calls : List Call) (s : List ℕ) → length s ≡ 168 → isTable (packedInto calls s) ≡ true
+
+-- and eight that fit are held as the same records
+abbrev pub PackedTableIsHeld : Type 0
+PackedTableIsHeld =
+    (calls : List Call) (s : List ℕ) →
+    length s ≡ 168 → length calls ≡ 8 → ((k : ℕ) → k < 8 → Fitting (callAt calls k)) → heldTable (packedInto calls s) ≡ calls
+
+abbrev pub SoundTableIsHeld : Type 0
+SoundTableIsHeld =
+    (calls : List Call) (s : List ℕ) →
+    length s ≡ 168 → tableSound calls ≡ true → ((k : ℕ) → k < 8 → length (callAt calls k .timers) ≡ 7) → heldTable (packedInto calls s) ≡ calls
+
+-- what a table holds is packed as the same bytes, over itself as over any other 168
+abbrev pub HeldTableIsPacked : Type 0
+HeldTableIsPacked =
+    (s over : List ℕ) → ((i : ℕ) → getD s i 0 < 256) → isTable s ≡ true → length over ≡ 168 → packedInto (heldTable s) over ≡ s
+
+-- two results that an entry's promise allows are equal: the returned number with every byte of the slices that the entry may write
+
+abbrev pub ConsoleFreshDetermined : Type 0
+ConsoleFreshDetermined = (s : List ℕ) (w₁ w₂ : ℕ × List ℕ) → w₁ ≡ consoleFreshened s → w₂ ≡ consoleFreshened s → w₁ ≡ w₂
+
+abbrev pub ConsoleStepDetermined : Type 0
+ConsoleStepDetermined =
+    (s : List ℕ) (place : ℕ) (event out : List ℕ) (w₁ w₂ : TableLeft) →
+    w₁ ≡ consoleHostStep s place event out → w₂ ≡ consoleHostStep s place event out → w₁ ≡ w₂
