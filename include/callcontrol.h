@@ -5,8 +5,9 @@
  *
  * The library holds nothing: a call is 21 bytes in the hands of the host. No function allocates,
  * keeps a pointer after it returns, or reads or writes a byte beyond the lengths it is given, so
- * any number of calls can be run side by side. Bytes that may be written must not overlap other
- * bytes handed to the same function. Pointers must not be null, also where the length is 0.
+ * any number of calls can be run side by side, each by one thread at a time. Bytes that may be
+ * written must not overlap other bytes handed to the same function. Pointers must not be null, also
+ * where the length is 0. docs/HOST.md has what a host must do, and what each answer asks of it.
  *
  * The library is an archive for each product, and each function says at its end which have it:
  * libhost.a for a set with one call, and libhost_console.a, linked beside it, for a console.
@@ -201,8 +202,8 @@ enum callcontrol_event_kind {
     CALLCONTROL_D_DISCONNECT = 0x020D,          /* i, 0 allowed */
     CALLCONTROL_D_RELEASE = 0x020E,             /* i, 0 allowed */
 
-    CALLCONTROL_REPORT_SENT = 0x0301,
-    CALLCONTROL_REPORT_FAILED = 0x0302,
+    CALLCONTROL_REPORT_SENT = 0x0301,   /* of U-SETUP or U-DISCONNECT, the one written last; of no other PDU */
+    CALLCONTROL_REPORT_FAILED = 0x0302, /* the same; neither after CANCEL nor after the call's end */
     CALLCONTROL_BREAK = 0x0303,
     CALLCONTROL_RESUME = 0x0304,
 
@@ -222,7 +223,7 @@ enum callcontrol_message_kind {
     CALLCONTROL_STOP = 0x0601,      /* n */
     CALLCONTROL_START = 0x0602,     /* n o: o is 0 but for T310, whose 0 no step writes */
     CALLCONTROL_CONFIGURE = 0x0603, /* p */
-    CALLCONTROL_CANCEL = 0x0604,
+    CALLCONTROL_CANCEL = 0x0604, /* take back the U-SETUP or U-DISCONNECT that is not reported yet */
     CALLCONTROL_PLACE = 0x0605, /* y, 0 to 7: the messages behind it are this place's */
 
     CALLCONTROL_SETUP_INDICATION = 0x0701, /* i a d */
@@ -368,8 +369,10 @@ static inline size_t callcontrol_used_of(uint32_t result)
  * A bank keeps the seven timers over the host's millisecond counter, 32 bits that wrap. Its four
  * functions return answer * 2^24 + count. A refusal counts 0 and changes nothing.
  *
- * They are right as long as each reading is at or after the last accepted one, and less than 2^31
- * ms (24 days) after it: so read the counter while no timer runs, too.
+ * A START counts from the last reading: make one right before each event of the call. All that it
+ * hands out is handed in as expiries before any other event of that call, since an event may start
+ * such a timer anew. The bank is right as long as each reading is at or after the last accepted one,
+ * and less than 2^31 ms (24 days) after it: so read the counter while no timer runs, too.
  */
 
 /* Offsets in a bank; the timers' own stand in the order 301 302 303 306 308 310 311. */
@@ -402,7 +405,7 @@ uint32_t callcontrol_bank_stop(uint8_t *bank, size_t bank_len, uint16_t timer); 
 /*
  * START: the timer runs from the last accepted reading on for its length in the table, anew if it
  * ran; code matters for T310 alone. A table may end behind the entry asked for. Answer 0, 1, 30 or
- * 31, count 0.
+ * 31, count 0; after 31 repeat it with a right length: the call record counts the timer as running.
  */
 uint32_t callcontrol_bank_start(uint8_t *bank, size_t bank_len,
                                 const uint32_t *lengths, size_t lengths_len,
@@ -410,9 +413,9 @@ uint32_t callcontrol_bank_start(uint8_t *bank, size_t bank_len,
 
 /*
  * A new reading: writes the numbers of all timers then due to the front of due, the earliest
- * deadline first and equal ones by rising number, and counts them; they no longer run. Later
- * elements of due stay as they are. Answer 0, 1, 32 or 33; a list of CALLCONTROL_TIMERS is always
- * long enough, and after 33 the reading counts as not made.
+ * deadline first and equal ones by rising number, and counts them (timers, not bytes); they no
+ * longer run. Later elements of due stay as they are. Answer 0, 1, 32 or 33; a list of
+ * CALLCONTROL_TIMERS is always long enough, and after 33 the reading counts as not made.
  */
 uint32_t callcontrol_bank_advance(uint8_t *bank, size_t bank_len, uint32_t reading,
                                   uint16_t *due, size_t due_len); /* in libhost.a */

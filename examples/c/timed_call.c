@@ -1,10 +1,10 @@
 /*
- * A call whose timers the library keeps: the host reads its millisecond counter, hands the reading
- * in, and plays each timer that is handed out as an expiry. The counter wraps in the middle of the
- * call.
+ * A call whose timers the library keeps: the host reads its millisecond counter right before each
+ * event and every 100 ms besides, and hands in each timer that is due as an expiry before anything
+ * else. The counter wraps in the middle of the call.
  *
- * The host keeps three things: the 21 bytes of the call, the 39 bytes of the bank of timers, and
- * the lengths of the timers.
+ * The host keeps three things: the bytes of the call, the bytes of the bank of timers, and the
+ * lengths of the timers.
  *
  *     gcc -std=c11 -Wall -Wextra -Werror -Iinclude examples/c/timed_call.c \
  *         target/staticlib/libhost.a -o target/timed_call
@@ -20,9 +20,12 @@ static uint8_t bank[CALLCONTROL_BANK_SIZE];
 /* What the counter shows: four seconds and a little before it wraps. */
 static uint32_t counter = 0xFFFFF000u;
 
-/* In milliseconds: T301 T302 T303 T306 T308 T311, then T310 for the codes 0 to 15. */
+/*
+ * In milliseconds: T301 T302 T303 T306 T308 T311, then T310 for the codes 0 to 15. Code 0 is "no
+ * limit", which no START names.
+ */
 static const uint32_t lengths[CALLCONTROL_LENGTHS] = {
-    30000, 60000, 60000, 6000, 10000, 8000, 1073741824, 30000, 45000, 60000, 120000,
+    30000, 60000, 60000, 6000, 10000, 8000, 0, 30000, 45000, 60000, 120000,
     180000, 240000, 300000, 480000, 600000, 900000, 1200000, 1800000, 2400000, 3600000, 7200000,
 };
 
@@ -42,6 +45,7 @@ static const struct {
     {CALLCONTROL_RELEASE_INDICATION, "RELEASE indication"},
     {CALLCONTROL_RELEASE_CONFIRM, "RELEASE confirm"},
     {CALLCONTROL_TX_INDICATION, "TX indication"},
+    {CALLCONTROL_MODIFY_INDICATION, "MODIFY indication"},
 };
 
 static const char *name_of(unsigned int number)
@@ -65,7 +69,7 @@ static void must_be_taken(uint32_t result)
     }
 }
 
-/* Carries out one order of the library: the timers' go to the bank. */
+/* Carries out one message: the timers' go to the bank. A real host would send, switch and tell. */
 static void carry_out(const uint8_t *message)
 {
     unsigned int kind = two_bytes(message + 2);
@@ -85,10 +89,10 @@ static void carry_out(const uint8_t *message)
     printf("\n");
 }
 
-/* Hands one event to the library, and carries out what it orders. */
-static void play(const char *name, const uint8_t *event, size_t event_len)
+/* One step: hands the event to the library, and carries out the messages in their order. */
+static void take(const char *name, const uint8_t *event, size_t event_len)
 {
-    uint8_t out[CALLCONTROL_STEP_MAX];
+    uint8_t out[CALLCONTROL_RUN_MAX];
     uint32_t result = callcontrol_step(call, sizeof call, event, event_len, out, sizeof out);
 
     printf("%08lX %s: answer %u\n", (unsigned long)counter, name, callcontrol_answer_of(result));
@@ -96,12 +100,11 @@ static void play(const char *name, const uint8_t *event, size_t event_len)
         carry_out(out + at);
 }
 
-/* Reads the counter, and plays an expiry for each timer that is due. */
+/* A reading: each timer that is due is handed in as an expiry, before any other event of the call. */
 static void read_counter(void)
 {
     uint16_t due[CALLCONTROL_TIMERS];
-    uint32_t result = callcontrol_bank_advance(bank, sizeof bank, counter, due,
-                                               CALLCONTROL_TIMERS);
+    uint32_t result = callcontrol_bank_advance(bank, sizeof bank, counter, due, CALLCONTROL_TIMERS);
 
     must_be_taken(result);
     for (size_t at = 0; at < callcontrol_count_of(result); at++) {
@@ -109,17 +112,25 @@ static void read_counter(void)
                                   (uint8_t)(due[at] >> 8)};
         char name[24];
         snprintf(name, sizeof name, "expiry of T%u", (unsigned int)due[at]);
-        play(name, expiry, sizeof expiry);
+        take(name, expiry, sizeof expiry);
     }
+}
+
+/* An event of the user, the network or the lower layers: a reading goes right before it. */
+static void play(const char *name, const uint8_t *event, size_t event_len)
+{
+    read_counter();
+    take(name, event, event_len);
 }
 
 /* Time passes; the host reads its counter every 100 ms. */
 static void wait_for(uint32_t milliseconds)
 {
-    for (uint32_t passed = 0; passed < milliseconds; passed += 100) {
+    for (; milliseconds >= 100; milliseconds -= 100) {
         counter += 100; /* wraps */
         read_counter();
     }
+    counter += milliseconds; /* an event comes between two of these readings */
 }
 
 #define BYTES(...) ((const uint8_t[]){__VA_ARGS__})
@@ -133,20 +144,34 @@ int main(void)
         return EXIT_FAILURE;
 
     PLAY("SETUP request", 10, 0, 0x01, 0x01, 7, 0, 0, 0, CALLCONTROL_SIMPLEX, 1);
-    wait_for(300);
+    wait_for(330);
     PLAY("REPORT sent", 4, 0, 0x01, 0x03);
-    wait_for(700);
+    wait_for(670);
     PLAY("D-CALL PROCEEDING", 6, 0, 0x01, 0x02, 21, 0);
-    wait_for(2000);
-    PLAY("D-CONNECT, granted", 9, 0, 0x03, 0x02, 21, 0, CALLCONTROL_GRANTED, CALLCONTROL_SIMPLEX, 3);
+    wait_for(2090);
+    PLAY("D-CONNECT, granted", 9, 0, 0x03, 0x02, 21, 0, CALLCONTROL_GRANTED, CALLCONTROL_SIMPLEX, 1);
 
-    /* The counter wraps while the user speaks, too long: T311 runs out. */
+    /*
+     * The counter wraps while the user speaks, too long: T311 runs out 8 s after D-CONNECT, and is
+     * handed out at the first reading that is not before that.
+     */
     wait_for(9000);
+
+    /* 50 ms before T310 runs out the network prolongs the call: the whole length counts anew. */
+    wait_for(20950);
+    PLAY("D-INFO, T310 anew", 9, 0, 0x06, 0x02, 21, 0, 1, CALLCONTROL_T310_CODE_ABSENT, CALLCONTROL_SIMPLEX);
+    wait_for(1000);
 
     /* The path is lost and found again, and the network does not answer: T306, then T308. */
     PLAY("BREAK", 4, 0, 0x03, 0x03);
-    wait_for(1500);
+    wait_for(1540);
     PLAY("RESUME", 4, 0, 0x04, 0x03);
+
+    /* T306 is due at 6 s. An event that comes after that, and before a reading, finds the call released. */
+    wait_for(5900);
+    counter += 150;
+    PLAY("D-CALL RESTORE, too late", 9, 0, 0x0C, 0x02, 21, 0, CALLCONTROL_GRANTED, 1,
+         CALLCONTROL_T310_CODE_ABSENT);
     wait_for(20000);
     return EXIT_SUCCESS;
 }
