@@ -50,6 +50,34 @@ static void make_islands(void)
     }
 }
 
+/*
+ * A run of steps, each from the record that the last one gave. The input is whole event records one
+ * after another, for a console each behind its place. As long as out has room for all that a step may
+ * give, it gets the word, the record after the step, and the messages. Returns how many were played.
+ */
+static uint32_t play(int console, size_t lent, uint8_t *record, size_t record_len,
+                     const uint8_t *input, size_t input_len, uint8_t *out, size_t out_len)
+{
+    const size_t head = sizeof(uint32_t) + record_len;
+    uint32_t played = 0;
+    for (; input_len > 0 && out_len >= head + lent; played++) {
+        const uint8_t *event = input + (console ? 1 : 0);
+        const size_t event_len = (size_t)event[0] | (size_t)event[1] << 8;
+        const uint32_t word =
+            console ? callcontrol_console_step(record, record_len, input[0], event, event_len,
+                                               out + head, lent)
+                    : callcontrol_step(record, record_len, event, event_len, out + head, lent);
+        const size_t used = head + callcontrol_count_of(word);
+        memcpy(out, &word, sizeof word);
+        memcpy(out + sizeof word, record, record_len);
+        out += used;
+        out_len -= used;
+        input_len -= (size_t)(event - input) + event_len;
+        input = event + event_len;
+    }
+    return played;
+}
+
 static uint32_t call(unsigned function, uint32_t number, uint8_t *const at[], const size_t len[])
 {
     switch (function) {
@@ -85,6 +113,10 @@ static uint32_t call(unsigned function, uint32_t number, uint8_t *const at[], co
     case 13:
         return callcontrol_console_step(at[RECORD], len[RECORD], (uint8_t)number, at[INPUT],
                                         len[INPUT], at[OUT], len[OUT]);
+    case 14:
+    case 15:
+        return play(function == 15, number, at[RECORD], len[RECORD], at[INPUT], len[INPUT],
+                    at[OUT], len[OUT]);
     }
     fail("no such function");
     return 0;

@@ -8,6 +8,7 @@ pub mod generate;
 pub mod histories;
 pub mod library;
 pub mod programs;
+pub mod replay;
 pub mod request;
 pub mod sidebyside;
 pub mod tape;

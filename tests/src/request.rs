@@ -25,6 +25,12 @@ pub enum Function {
     // Table as the record, beside the slices the place.
     ConsoleFresh = 12,
     ConsoleStep = 13,
+    // A run of steps, each from the record that the last one gave. The input is whole event records
+    // one after another, for a console each behind its place; the buffer gets for each its word, the
+    // record after it and its messages, as long as there is room; beside them stands how many bytes
+    // each step is lent. Gives how many records were handed in.
+    Play = 14,
+    ConsolePlay = 15,
 }
 
 impl Function {
@@ -43,6 +49,8 @@ impl Function {
         Function::BankAdvance,
         Function::ConsoleFresh,
         Function::ConsoleStep,
+        Function::Play,
+        Function::ConsolePlay,
     ];
 
     /// Splits a result of this function into answer and what is counted.

@@ -39,6 +39,7 @@ macro_rules! histories {
 
 histories! {
     checked_example
+    whole_call
     set_up_outgoing
     set_up_incoming
     set_up_abandoned

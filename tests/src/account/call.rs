@@ -71,6 +71,14 @@ impl Path {
             _ => return None,
         })
     }
+
+    pub const fn name(self) -> &'static str {
+        match self {
+            Path::Up => "up",
+            Path::Broken => "broken",
+            Path::Restoring => "restoring",
+        }
+    }
 }
 
 #[derive(Clone, Copy, Debug, PartialEq, Eq, Hash)]

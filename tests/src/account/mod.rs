@@ -11,6 +11,7 @@ pub mod boundary;
 pub mod call;
 pub mod console;
 pub mod history;
+pub mod kinds;
 pub mod pieces;
 pub mod records;
 pub mod running;

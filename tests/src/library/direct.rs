@@ -126,7 +126,35 @@ fn call(function: Function, number: u32, [record, input, out]: [&mut [u8]; 3]) -
         Function::BankAdvance => bank::advance(record, number, bank::numbers(out)),
         Function::ConsoleFresh => console::fresh(record),
         Function::ConsoleStep => console::step(record, number as u8, input, out),
+        Function::Play => play(record, input, out, number, false, |record, _, event, lent| {
+            step(record, event, lent)
+        }),
+        Function::ConsolePlay => play(record, input, out, number, true, console::step),
     }
+}
+
+/// What `play` in bridge.c does.
+fn play(
+    record: &mut [u8],
+    mut input: &[u8],
+    mut out: &mut [u8],
+    lent: u32,
+    console: bool,
+    step: impl Fn(&mut [u8], u8, &[u8], &mut [u8]) -> u32,
+) -> u32 {
+    let (head, lent, mut played) = (4 + record.len(), lent as usize, 0);
+    while !input.is_empty() && out.len() >= head + lent {
+        let place = if console { input[0] } else { 0 };
+        let event = &input[usize::from(console)..];
+        let (event, rest) = event.split_at(u16::from_le_bytes([event[0], event[1]]) as usize);
+        let word = step(record, place, event, &mut out[head..head + lent]);
+        out[..4].copy_from_slice(&word.to_le_bytes());
+        out[4..head].copy_from_slice(record);
+        out = &mut out[head + (word & 0xFFFF) as usize..];
+        input = rest;
+        played += 1;
+    }
+    played
 }
 
 thread_local! {

@@ -6,11 +6,17 @@ mod bank;
 mod instructions;
 #[cfg(not(bridged))]
 mod measure;
+mod replay;
 
 #[cfg(not(bridged))]
 mod console;
 
 fn main() {
+    // The one thing to be measured where it is named.
+    if std::env::args().nth(1).as_deref() == Some("replay") {
+        replay::main();
+        return;
+    }
     #[cfg(bridged)]
     println!(
         "The library is called over a bridge here; tests/at_hand.sh builds one for this machine, of \
@@ -23,4 +29,5 @@ fn main() {
         bank::main();
         console::main();
     }
+    replay::main();
 }
