@@ -24,6 +24,7 @@ fn main() {
     let paths = archives.each_ref().map(|archive| archive.display().to_string());
     println!("cargo:rustc-env=CALLCONTROL_ARCHIVES={}", paths.join(":"));
 
+    build_yardstick(&manifest);
     let own = machine_of(&archives[0]) == this_machine();
     let (cc, cxx, emulator) = match own {
         true => ("gcc", "g++", ""),
@@ -89,6 +90,39 @@ fn build_bridge(cc: &str, manifest: &Path, archives: &[PathBuf], own: bool) -> P
         ));
     }
     program
+}
+
+/// The accounts in plain C, for this machine: at -O3, and under names of their own at -Os.
+fn build_yardstick(manifest: &Path) {
+    let folder = manifest.join("yardstick");
+    println!("cargo:rerun-if-changed={}", folder.display());
+    let out = PathBuf::from(env::var_os("OUT_DIR").expect("cargo sets it"));
+    let mut objects = Vec::new();
+    for (options, kind) in [(&["-O3"][..], "quick"), (&["-Os", "-DFOR_SIZE"], "small")] {
+        for name in ["step", "console"] {
+            let object = out.join(format!("{name}-{kind}.o"));
+            let mut compile = Command::new("gcc");
+            compile.args(["-std=gnu11", "-Wall", "-Wextra", "-Wno-maybe-uninitialized", "-fPIC"]);
+            compile.args(options).arg("-c").arg(folder.join(format!("{name}.c")));
+            run(compile.arg("-o").arg(&object));
+            objects.push(object);
+        }
+    }
+    let archive = out.join("libyardstick.a");
+    let _ = fs::remove_file(&archive);
+    run(Command::new("ar").arg("rcs").arg(archive).args(objects));
+    println!("cargo:rustc-link-search=native={}", out.display());
+    println!("cargo:rustc-link-lib=static=yardstick");
+}
+
+fn run(command: &mut Command) {
+    match command.output() {
+        Err(error) => stop(&format!("{error}: {command:?}\n  {}", what_to_install(true))),
+        Ok(output) if !output.status.success() => {
+            stop(&format!("{command:?} says:\n{}", String::from_utf8_lossy(&output.stderr)))
+        }
+        Ok(_) => {}
+    }
 }
 
 fn what_to_install(own: bool) -> &'static str {

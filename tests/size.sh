@@ -1,8 +1,9 @@
 #!/bin/sh
-# Compares the code size of the library with that of the account built for size.
+# Compares the code size of the library with that of the accounts: the Rust one built for size, and
+# the one in plain C (tests/yardstick) at -Os and -O3.
 #
-# Both are linked the same way into a C program that names functions of one archive, unused sections
-# dropped; what a program that names none of them already has is subtracted.
+# All are linked the same way into a C program that names functions, unused sections dropped; what a
+# program that names none of them already has is subtracted. Ratios are the library's .text to it.
 set -e
 here=$(cd "$(dirname "$0")" && pwd)
 folder=${CALLCONTROL_LIB_DIR:-$here/../target/staticlib}
@@ -46,22 +47,48 @@ link() { # source, program, archive
 section() { # program, section
     ${cross}size -A "$work/$1" | awk -v name="$2" '$1 == name { bytes = $2 } END { print bytes + 0 }'
 }
-row() { # what, program
-    printf '%-44s%10d%10d\n' "$1" \
-        $(($(section "$2" .text) - $(section none .text))) \
-        $(($(section "$2" .rodata) - $(section none .rodata)))
+row() { # what, program, the library's program
+    text=$(($(section "$2" .text) - $(section none .text)))
+    rodata=$(($(section "$2" .rodata) - $(section none .rodata)))
+    printf '%-44s%10d%10d' "$1" "$text" "$rodata"
+    [ -z "$3" ] || awk -v own=$(($(section "$3" .text) - $(section none .text))) -v it="$text" 'BEGIN { printf "%8.2f", own / it }'
+    echo
+}
+plain() { # program with the names of the library, program to write, the same with the names in plain C
+    sed -e '/include/d' -e 's/callcontrol_\([a-z_]*\),/plain_\1,/' "$work/$1.c" >"$work/$2.body"
+    {
+        sed -n 's/.*(void \*)\(plain_[a-z_]*\),.*/void \1(void);/p' "$work/$2.body"
+        cat "$work/$2.body"
+    } >"$work/$2.c"
+}
+in_c() { # what, program with the names of the library, the library's program
+    plain "$2" "$2_c"
+    for level in -Os -O3; do
+        objects=
+        for name in step console; do
+            ${cross}gcc -std=gnu11 $level -ffunction-sections -fdata-sections -w -c "$here/yardstick/$name.c" \
+                -o "$work/$name$level.o"
+            objects="$objects $work/$name$level.o"
+        done
+        ${cross}gcc -std=c11 -Os -ffunction-sections -fdata-sections "$work/$2_c.c" $objects -Wl,--gc-sections \
+            -o "$work/$2_c$level"
+        row "plain C $level, $1" "$2_c$level" "$3"
+    done
 }
 
-printf '%-44s%10s%10s\n' 'bytes beyond a program that names nothing' .text .rodata
+printf '%-44s%10s%10s%8s\n' 'bytes beyond a program that names nothing' .text .rodata ratio
 link none none
 link one_call library "$folder/libhost.a"
 row 'library, the six entries for one call' library
-link step step "$folder/libhost.a"
-row 'library, callcontrol_step alone' step
 if [ -z "$cross" ]; then
     cargo build --quiet --release --offline --manifest-path "$here/sized/Cargo.toml"
     link one_call account "$here/sized/target/release/libsized.a"
-    row 'account, the six entries for one call' account
+    row 'account, the six entries for one call' account library
 fi
+in_c 'the six entries for one call' one_call library
+link step step_alone "$folder/libhost.a"
+row 'library, callcontrol_step alone' step_alone
+in_c 'step alone' step step_alone
 link console console "$folder/libhost_console.a"
 row "library, the console's two entries" console
+in_c "the console's two entries" console console

@@ -12,3 +12,4 @@ pub mod replay;
 pub mod request;
 pub mod sidebyside;
 pub mod tape;
+pub mod yardstick;

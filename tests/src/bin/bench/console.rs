@@ -9,6 +9,7 @@ use callcontrol_tests::account::console::{self, Console, Goes, TABLE_LEN};
 use callcontrol_tests::account::Event;
 use callcontrol_tests::library;
 use callcontrol_tests::tape::{console_tape, ConsoleTape, CONSOLE_OUT_LEN, EVENTS};
+use callcontrol_tests::yardstick;
 use std::hint::black_box;
 use std::time::Instant;
 
@@ -55,6 +56,14 @@ fn run_account(tape: &ConsoleTape) -> Sum {
     run_packed(tape, account_step)
 }
 
+fn run_quick_c(tape: &ConsoleTape) -> Sum {
+    run_packed(tape, yardstick::quick::console_step)
+}
+
+fn run_small_c(tape: &ConsoleTape) -> Sum {
+    run_packed(tape, yardstick::small::console_step)
+}
+
 fn run_struct(tape: &ConsoleTape) -> Sum {
     let mut console = Console::FRESH;
     let mut out = [0; CONSOLE_OUT_LEN];
@@ -81,12 +90,14 @@ pub fn main() {
     );
 
     type Run = fn(&ConsoleTape) -> Sum;
-    let runs: [(&str, Run); 3] = [
+    let runs: [(&str, Run); 5] = [
         ("library", run_library),
         ("account, packed table", run_account),
         ("account, table kept as structs", run_struct),
+        ("plain C, -O3", run_quick_c),
+        ("plain C, -Os", run_small_c),
     ];
-    let mut best = [f64::INFINITY; 3];
+    let mut best = [f64::INFINITY; 5];
     let expected = run_account(&tape);
     for _ in 0..ROUNDS {
         for (place, (name, run)) in runs.iter().enumerate() {
@@ -103,12 +114,17 @@ pub fn main() {
     }
     println!("  {:<34}{:>8.2}", "ratio library / account, packed", best[0] / best[1]);
     println!("  {:<34}{:>8.2}", "ratio library / account, structs", best[0] / best[2]);
+    println!("  {:<34}{:>8.2}", "ratio library / plain C, -O3", best[0] / best[3]);
+    println!("  {:<34}{:>8.2}", "ratio library / plain C, -Os", best[0] / best[4]);
 
     println!("by where the event goes, ns per step and ratio:");
-    println!("  {:<34}{:>8}{:>10}{:>10}{:>8}", "", "on tape", "library", "packed", "ratio");
+    println!(
+        "  {:<34}{:>8}{:>10}{:>10}{:>8}{:>8}{:>8}",
+        "", "on tape", "library", "packed", "ratio", "C -O3", "ratio"
+    );
     for (kind, turns, on_tape) in kinds(&tape) {
         let expected = replay(&turns, account_step);
-        let mut best = [f64::INFINITY; 2];
+        let mut best = [f64::INFINITY; 3];
         for _ in 0..ROUNDS {
             let start = Instant::now();
             assert_eq!(replay(black_box(&turns), library::console::step), expected, "{kind}");
@@ -116,9 +132,20 @@ pub fn main() {
             let start = Instant::now();
             assert_eq!(replay(black_box(&turns), account_step), expected, "{kind}");
             best[1] = best[1].min(start.elapsed().as_nanos() as f64 / turns.len() as f64);
+            let start = Instant::now();
+            assert_eq!(
+                replay(black_box(&turns), yardstick::quick::console_step),
+                expected,
+                "{kind}"
+            );
+            best[2] = best[2].min(start.elapsed().as_nanos() as f64 / turns.len() as f64);
         }
-        let [library, packed] = best;
-        println!("  {kind:<34}{on_tape:>8}{library:>10.1}{packed:>10.1}{:>8.2}", library / packed);
+        let [library, packed, quick] = best;
+        println!(
+            "  {kind:<34}{on_tape:>8}{library:>10.1}{packed:>10.1}{:>8.2}{quick:>8.1}{:>8.2}",
+            library / packed,
+            library / quick
+        );
     }
 }
 

@@ -8,6 +8,7 @@
 use callcontrol_tests::account::{boundary, Call};
 use callcontrol_tests::library;
 use callcontrol_tests::tape::{tape, Tape, EVENTS, OUT_LEN};
+use callcontrol_tests::yardstick;
 use std::hint::black_box;
 use std::time::Instant;
 
@@ -82,6 +83,29 @@ fn run_account(tape: &Tape) -> Sum {
     Sum { words, record }
 }
 
+/// A step under a C name, in the library's place.
+fn run_bare(tape: &Tape, step: PackedStep) -> Sum {
+    let mut record = Call::FRESH.pack();
+    let mut out = [0u8; OUT_LEN];
+    let mut words = 0u64;
+    for event in tape.events() {
+        let lent = black_box(&mut out);
+        let (held, size) = (record.as_mut_ptr(), record.len());
+        let word =
+            unsafe { step(held, size, event.as_ptr(), event.len(), lent.as_mut_ptr(), lent.len()) };
+        words = words.wrapping_mul(31).wrapping_add(u64::from(word));
+    }
+    Sum { words, record }
+}
+
+fn run_quick_c(tape: &Tape) -> Sum {
+    run_bare(tape, yardstick::quick::bare_step)
+}
+
+fn run_small_c(tape: &Tape) -> Sum {
+    run_bare(tape, yardstick::small::bare_step)
+}
+
 fn run_account_struct(tape: &Tape) -> Sum {
     let mut call = Call::FRESH;
     let mut out = [0u8; OUT_LEN];
@@ -103,12 +127,14 @@ pub fn main() {
     println!("tape: {EVENTS} events from fresh, by answer 0..8: {answers:?}");
 
     type Run = fn(&Tape) -> Sum;
-    let runs: [(&str, Run); 3] = [
+    let runs: [(&str, Run); 5] = [
         ("library", run_library),
         ("account, packed record", run_account),
         ("account, record kept as a struct", run_account_struct),
+        ("plain C, -O3", run_quick_c),
+        ("plain C, -Os", run_small_c),
     ];
-    let mut best = [f64::INFINITY; 3];
+    let mut best = [f64::INFINITY; 5];
     let expected = run_account(&tape);
     for _ in 0..ROUNDS {
         for (place, (name, run)) in runs.iter().enumerate() {
@@ -125,15 +151,113 @@ pub fn main() {
     }
     println!("  {:<34}{:>8.2}", "ratio library / account, packed", best[0] / best[1]);
     println!("  {:<34}{:>8.2}", "ratio library / account, struct", best[0] / best[2]);
+    println!("  {:<34}{:>8.2}", "ratio library / plain C, -O3", best[0] / best[3]);
+    println!("  {:<34}{:>8.2}", "ratio library / plain C, -Os", best[0] / best[4]);
+    readers(&tape);
 
     println!("stack of one step, the most over the tape:");
-    let steps: [(&str, PackedStep); 2] =
-        [("library", library::callcontrol_step), ("account, packed record", account_step)];
+    let steps: [(&str, PackedStep); 4] = [
+        ("library", library::callcontrol_step),
+        ("account, packed record", account_step),
+        ("plain C, -O3", yardstick::quick::bare_step),
+        ("plain C, -Os", yardstick::small::bare_step),
+    ];
     for (name, step) in steps {
         match stack::deepest(&tape, step) {
             Some(bytes) => println!("  {name:<34}{bytes:>8} bytes"),
             None => println!("  {name:<34}not measured on this machine"),
         }
+    }
+}
+
+/// The other entries for one call, over the events of the tape and over the messages that it writes.
+fn readers(tape: &Tape) {
+    let mut messages: Vec<Vec<u8>> = Vec::new();
+    let mut record = Call::FRESH.pack();
+    for event in tape.events() {
+        let mut out = [0; OUT_LEN];
+        let word = boundary::step(&mut record, event, &mut out);
+        let mut rest = &out[..(word & 0xFFFF) as usize];
+        while let [low, high, ..] = *rest {
+            let (one, behind) = rest.split_at(usize::from(u16::from_le_bytes([low, high])));
+            messages.push(one.to_vec());
+            rest = behind;
+        }
+    }
+    let events: Vec<Vec<u8>> = tape.events().map(<[u8]>::to_vec).collect();
+
+    type Entry = fn(&[u8], &mut [u8]) -> u32;
+    let entries: [(&str, &[Vec<u8>], [Entry; 4]); 5] = [
+        (
+            "fresh",
+            &events,
+            [
+                |_, out| library::fresh(&mut out[..21]),
+                |_, out| boundary::fresh(&mut out[..21]),
+                |_, out| yardstick::quick::fresh(&mut out[..21]),
+                |_, out| yardstick::small::fresh(&mut out[..21]),
+            ],
+        ),
+        (
+            "check_event",
+            &events,
+            [
+                |bytes, _| library::check_event(bytes),
+                |bytes, _| boundary::check_event(bytes),
+                |bytes, _| yardstick::quick::check_event(bytes),
+                |bytes, _| yardstick::small::check_event(bytes),
+            ],
+        ),
+        (
+            "check_message",
+            &messages,
+            [
+                |bytes, _| library::check_message(bytes),
+                |bytes, _| boundary::check_message(bytes),
+                |bytes, _| yardstick::quick::check_message(bytes),
+                |bytes, _| yardstick::small::check_message(bytes),
+            ],
+        ),
+        (
+            "copy_event",
+            &events,
+            [
+                library::copy_event,
+                boundary::copy_event,
+                yardstick::quick::copy_event,
+                yardstick::small::copy_event,
+            ],
+        ),
+        (
+            "copy_message",
+            &messages,
+            [
+                library::copy_message,
+                boundary::copy_message,
+                yardstick::quick::copy_message,
+                yardstick::small::copy_message,
+            ],
+        ),
+    ];
+    println!("the other entries, ns per call and ratios to the account and to plain C:");
+    println!("  {:<34}{:>8}{:>10}{:>8}{:>8}", "", "library", "account", "-O3", "-Os");
+    for (name, inputs, by) in entries {
+        let mut best = [f64::INFINITY; 4];
+        let mut out = [0; OUT_LEN];
+        for _ in 0..ROUNDS / 8 {
+            let mut sums = [0u64; 4];
+            for ((best, sum), entry) in best.iter_mut().zip(&mut sums).zip(by) {
+                let start = Instant::now();
+                for bytes in inputs {
+                    *sum += u64::from(entry(bytes, black_box(&mut out)));
+                }
+                *best = best.min(start.elapsed().as_nanos() as f64 / inputs.len() as f64);
+            }
+            assert_eq!(sums, [sums[0]; 4], "{name}: all answer the same");
+        }
+        let [own, account, quick, small] = best;
+        let (account, quick, small) = (own / account, own / quick, own / small);
+        println!("  {name:<34}{own:>8.1}{account:>10.2}{quick:>8.2}{small:>8.2}");
     }
 }
 
