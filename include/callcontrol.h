@@ -3,7 +3,7 @@
  * ETSI EN 300 392-2 clause 14.5.1: every event handed in is taken or refused with one answer,
  * and what it orders is written into a buffer the host lends.
  *
- * The library holds nothing: a call is 21 bytes in the hands of the host. No function allocates,
+ * The library holds nothing: a call is 22 bytes in the hands of the host. No function allocates,
  * keeps a pointer after it returns, or reads or writes a byte beyond the lengths it is given, so
  * any number of calls can be run side by side, each by one thread at a time. Bytes that may be
  * written must not overlap other bytes handed to the same function. Pointers must not be null, also
@@ -16,6 +16,11 @@
  * written. With answer 4 of a reader the place says what is wrong: the offset of the first bad field
  * from the first byte of the record, or 2 where the size of the body is wrong. With every other answer
  * it is 0.
+ *
+ * What changed: a record has one byte more, the slots per frame (CALLCONTROL_AT_SLOTS), and a table
+ * eight more. A host that keeps records of 21 bytes, or tables of 168, gets answer 1 to them, and
+ * begins with callcontrol_fresh. MODIFY indication has one byte more, so a host that reads it by its
+ * old size must change.
  */
 #ifndef CALLCONTROL_H
 #define CALLCONTROL_H
@@ -29,9 +34,9 @@ extern "C" {
 
 /* ---- Sizes and limits ---------------------------------------------------------------------- */
 
-#define CALLCONTROL_RECORD_SIZE 21u         /* bytes of a call record */
+#define CALLCONTROL_RECORD_SIZE 22u         /* bytes of a call record */
 #define CALLCONTROL_PLACES 8u               /* calls of a console */
-#define CALLCONTROL_TABLE_SIZE 168u         /* bytes of a console's table: eight records */
+#define CALLCONTROL_TABLE_SIZE 176u         /* bytes of a console's table: eight records */
 #define CALLCONTROL_HEAD_SIZE 4u            /* length u16 and kind u16 before the body */
 #define CALLCONTROL_EVENT_MAX 11u           /* bytes of the longest event */
 #define CALLCONTROL_MESSAGE_MAX 11u         /* bytes of the longest message */
@@ -42,6 +47,7 @@ extern "C" {
 #define CALLCONTROL_CONSOLE_MAX 184u        /* ... and RESUME, on a table reached from fresh */
 #define CALLCONTROL_IDENTIFIER_MAX 16383u   /* i */
 #define CALLCONTROL_ADDRESS_MAX 16777215u   /* a; 0 is unknown */
+#define CALLCONTROL_SLOTS_MAX 4u            /* s; the least is 1 */
 #define CALLCONTROL_T310_CODE_MAX 15u       /* o */
 #define CALLCONTROL_T310_CODE_NO_LIMIT 0u   /* o: no START is written; a running T310 is stopped */
 #define CALLCONTROL_T310_CODE_ABSENT 16u    /* o in D-INFO and D-CALL RESTORE: none given */
@@ -113,7 +119,8 @@ enum callcontrol_field {
     CALLCONTROL_AT_T306 = 17,
     CALLCONTROL_AT_T308 = 18,
     CALLCONTROL_AT_T310 = 19,
-    CALLCONTROL_AT_T311 = 20
+    CALLCONTROL_AT_T311 = 20,
+    CALLCONTROL_AT_SLOTS = 21 /* slots per frame, 1 to 4 */
 };
 
 enum callcontrol_state {
@@ -181,7 +188,7 @@ enum callcontrol_timer { /* n */
 /* ---- Kinds of records, with the letters of their bodies ------------------------------------ */
 
 enum callcontrol_event_kind {
-    CALLCONTROL_SETUP_REQUEST = 0x0101, /* a d q */
+    CALLCONTROL_SETUP_REQUEST = 0x0101, /* a d q s, or without s */
     CALLCONTROL_SETUP_RESPONSE = 0x0102,
     CALLCONTROL_RELEASE_REQUEST = 0x0103,
     CALLCONTROL_TX_REQUEST = 0x0104,     /* k: 1 demand, 0 cease */
@@ -189,10 +196,10 @@ enum callcontrol_event_kind {
 
     CALLCONTROL_D_CALL_PROCEEDING = 0x0201,     /* i */
     CALLCONTROL_D_ALERT = 0x0202,               /* i */
-    CALLCONTROL_D_CONNECT = 0x0203,             /* i g d o */
+    CALLCONTROL_D_CONNECT = 0x0203,             /* i g d o s, or without s: the held slots stay */
     CALLCONTROL_D_CONNECT_ACKNOWLEDGE = 0x0204, /* i g o */
     CALLCONTROL_D_SETUP = 0x0205,               /* i a d */
-    CALLCONTROL_D_INFO = 0x0206,                /* i r o d */
+    CALLCONTROL_D_INFO = 0x0206,                /* i r o d s, or without s: the same */
     CALLCONTROL_D_TX_GRANTED = 0x0207,          /* i g */
     CALLCONTROL_D_TX_CEASED = 0x0208,           /* i */
     CALLCONTROL_D_TX_INTERRUPT = 0x0209,        /* i g */
@@ -211,7 +218,7 @@ enum callcontrol_event_kind {
 };
 
 enum callcontrol_message_kind {
-    CALLCONTROL_U_SETUP = 0x0501,        /* a d q */
+    CALLCONTROL_U_SETUP = 0x0501,        /* a d q s, or without s where the SETUP request had none */
     CALLCONTROL_U_CONNECT = 0x0502,      /* i */
     CALLCONTROL_U_DISCONNECT = 0x0503,   /* i c, 0 is the dummy identifier */
     CALLCONTROL_U_RELEASE = 0x0504,      /* i, 0 allowed */
@@ -225,6 +232,7 @@ enum callcontrol_message_kind {
     CALLCONTROL_CONFIGURE = 0x0603, /* p */
     CALLCONTROL_CANCEL = 0x0604, /* take back the U-SETUP or U-DISCONNECT that is not reported yet */
     CALLCONTROL_PLACE = 0x0605, /* y, 0 to 7: the messages behind it are this place's */
+    CALLCONTROL_CHANNEL_ANSWER = 0x0606, /* u v: a question's number u16; 0 accept, 1 reject, 2 ignore; no step writes it */
 
     CALLCONTROL_SETUP_INDICATION = 0x0701, /* i a d */
     CALLCONTROL_SETUP_CONFIRM = 0x0702,    /* i g */
@@ -234,14 +242,14 @@ enum callcontrol_message_kind {
     CALLCONTROL_RELEASE_INDICATION = 0x0706, /* c */
     CALLCONTROL_RELEASE_CONFIRM = 0x0707,
     CALLCONTROL_TX_INDICATION = 0x0708,     /* x */
-    CALLCONTROL_MODIFY_INDICATION = 0x0709  /* d */
+    CALLCONTROL_MODIFY_INDICATION = 0x0709  /* d s: the mode, and the slots that the call then has */
 };
 
 /* ---- Functions ----------------------------------------------------------------------------- */
 
 /*
- * Writes the fresh record (IDLE) and counts 21; answer 1 and nothing written if record_len is
- * not 21.
+ * Writes the fresh record (IDLE) and counts 22; answer 1 and nothing written if record_len is
+ * not 22.
  */
 uint32_t callcontrol_fresh(uint8_t *record, size_t record_len); /* in libhost.a */
 
@@ -256,7 +264,7 @@ uint32_t callcontrol_step(uint8_t *record, size_t record_len,
                           uint8_t *out, size_t out_len); /* in libhost.a */
 
 /*
- * Writes eight fresh records and counts 168; answer 1 and nothing written if table_len is not 168.
+ * Writes eight fresh records and counts 176; answer 1 and nothing written if table_len is not 176.
  */
 uint32_t callcontrol_console_fresh(uint8_t *table, size_t table_len); /* in libhost_console.a */
 

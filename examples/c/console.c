@@ -3,7 +3,7 @@
  * another is set up. Each event goes through the library, and what the library orders is shown
  * with the place that it is for.
  *
- * The host keeps two things: the 168 bytes of the table, and a buffer that it lends to each step.
+ * The host keeps two things: the bytes of the table, and a buffer that it lends to each step.
  *
  *     gcc -std=c11 -Wall -Wextra -Werror -Iinclude examples/c/console.c \
  *         target/staticlib/libhost.a target/staticlib/libhost_console.a -o target/console

@@ -2,7 +2,7 @@
  * One call from set-up to release, as a C host plays it: each event goes through the library, and
  * everything the library orders is shown by name.
  *
- * The host keeps two things: the 21 bytes of the call, and a buffer that it lends to each step.
+ * The host keeps two things: the bytes of the call, and a buffer that it lends to each step.
  *
  *     gcc -std=c11 -Wall -Wextra -Werror -Iinclude examples/c/one_call.c \
  *         target/staticlib/libhost.a -o target/one_call
@@ -12,7 +12,8 @@
 #include <stdio.h>
 #include <stdlib.h>
 
-/* A kind of record: its name, and the letters of its body as the specification gives them. */
+/* A kind of record: its name, and the letters of its body as the specification gives them; a record
+ * of a kind that may carry slots, s, may also end without them. */
 struct kind {
     unsigned int number;
     const char *name;
@@ -20,17 +21,17 @@ struct kind {
 };
 
 static const struct kind kinds[] = {
-    {CALLCONTROL_SETUP_REQUEST, "SETUP request", "adq"},
+    {CALLCONTROL_SETUP_REQUEST, "SETUP request", "adqs"},
     {CALLCONTROL_SETUP_RESPONSE, "SETUP response", ""},
     {CALLCONTROL_RELEASE_REQUEST, "RELEASE request", ""},
     {CALLCONTROL_TX_REQUEST, "TX request", "k"},
     {CALLCONTROL_MODIFY_REQUEST, "MODIFY request", "d"},
     {CALLCONTROL_D_CALL_PROCEEDING, "D-CALL PROCEEDING", "i"},
     {CALLCONTROL_D_ALERT, "D-ALERT", "i"},
-    {CALLCONTROL_D_CONNECT, "D-CONNECT", "igdo"},
+    {CALLCONTROL_D_CONNECT, "D-CONNECT", "igdos"},
     {CALLCONTROL_D_CONNECT_ACKNOWLEDGE, "D-CONNECT ACKNOWLEDGE", "igo"},
     {CALLCONTROL_D_SETUP, "D-SETUP", "iad"},
-    {CALLCONTROL_D_INFO, "D-INFO", "irod"},
+    {CALLCONTROL_D_INFO, "D-INFO", "irods"},
     {CALLCONTROL_D_TX_GRANTED, "D-TX GRANTED", "ig"},
     {CALLCONTROL_D_TX_CEASED, "D-TX CEASED", "i"},
     {CALLCONTROL_D_TX_INTERRUPT, "D-TX INTERRUPT", "ig"},
@@ -44,7 +45,7 @@ static const struct kind kinds[] = {
     {CALLCONTROL_BREAK, "BREAK", ""},
     {CALLCONTROL_RESUME, "RESUME", ""},
     {CALLCONTROL_EXPIRY, "expiry", "n"},
-    {CALLCONTROL_U_SETUP, "U-SETUP", "adq"},
+    {CALLCONTROL_U_SETUP, "U-SETUP", "adqs"},
     {CALLCONTROL_U_CONNECT, "U-CONNECT", "i"},
     {CALLCONTROL_U_DISCONNECT, "U-DISCONNECT", "ic"},
     {CALLCONTROL_U_RELEASE, "U-RELEASE", "i"},
@@ -64,7 +65,7 @@ static const struct kind kinds[] = {
     {CALLCONTROL_RELEASE_INDICATION, "RELEASE indication", "c"},
     {CALLCONTROL_RELEASE_CONFIRM, "RELEASE confirm", ""},
     {CALLCONTROL_TX_INDICATION, "TX indication", "x"},
-    {CALLCONTROL_MODIFY_INDICATION, "MODIFY indication", "d"},
+    {CALLCONTROL_MODIFY_INDICATION, "MODIFY indication", "ds"},
 };
 
 static const char *const states[] = {
@@ -104,8 +105,9 @@ static void print_record(const uint8_t *record)
 {
     const struct kind *kind = find_kind(little_endian(record + 2, 2));
     const uint8_t *field = record + CALLCONTROL_HEAD_SIZE;
+    const uint8_t *end = record + little_endian(record, 2);
     printf("%s", kind->name);
-    for (const char *letter = kind->letters; *letter != '\0'; letter++) {
+    for (const char *letter = kind->letters; *letter != '\0' && field < end; letter++) {
         unsigned long value = little_endian(field, size_of(*letter));
         if (*letter == 'p')
             printf(" p=%lu (%s)", value, planes[value]);
@@ -116,12 +118,12 @@ static void print_record(const uint8_t *record)
     printf("\n");
 }
 
-/* Writes an event: one value for each letter of its kind. Gives its length. */
-static size_t make_event(uint8_t *event, unsigned int number, const unsigned long *values)
+/* Writes an event: one value for each letter of its kind, or none for slots. Gives its length. */
+static size_t make_event(uint8_t *event, unsigned int number, const unsigned long *values, size_t count)
 {
     const struct kind *kind = find_kind(number);
     size_t len = CALLCONTROL_HEAD_SIZE;
-    for (const char *letter = kind->letters; *letter != '\0'; letter++) {
+    for (const char *letter = kind->letters; *letter != '\0' && count-- > 0; letter++) {
         unsigned long value = *values++;
         for (size_t byte = 0; byte < size_of(*letter); byte++) {
             event[len++] = (uint8_t)(value & 0xFF);
@@ -136,22 +138,23 @@ static size_t make_event(uint8_t *event, unsigned int number, const unsigned lon
 }
 
 /* Hands one event to the library and shows what comes of it. */
-static void play(uint8_t *call, unsigned int number, const unsigned long *values)
+static void play(uint8_t *call, unsigned int number, const unsigned long *values, size_t count)
 {
     uint8_t event[CALLCONTROL_EVENT_MAX];
     uint8_t out[CALLCONTROL_RUN_MAX];
-    size_t event_len = make_event(event, number, values);
+    size_t event_len = make_event(event, number, values, count);
 
     uint32_t result = callcontrol_step(call, CALLCONTROL_RECORD_SIZE, event, event_len,
                                        out, sizeof out);
 
     printf("\n");
     print_record(event);
-    printf("  answer %u, place %u, %zu bytes: %s, path %s, plane %u (%s)\n",
+    printf("  answer %u, place %u, %zu bytes: %s, path %s, plane %u (%s), slots %u\n",
            callcontrol_answer_of(result), callcontrol_place_of(result),
            callcontrol_count_of(result),
            states[call[CALLCONTROL_AT_STATE]], paths[call[CALLCONTROL_AT_PATH]],
-           (unsigned int)call[CALLCONTROL_AT_PLANE], planes[call[CALLCONTROL_AT_PLANE]]);
+           (unsigned int)call[CALLCONTROL_AT_PLANE], planes[call[CALLCONTROL_AT_PLANE]],
+           (unsigned int)call[CALLCONTROL_AT_SLOTS]);
 
     /* A real host would send U-PDUs, set timers and tell its user here. */
     for (size_t at = 0; at < callcontrol_count_of(result);) {
@@ -166,8 +169,9 @@ static void play(uint8_t *call, unsigned int number, const unsigned long *values
     }
 }
 
-/* The values of an event's letters, in their order. */
-#define VALUES(...) ((const unsigned long[]){__VA_ARGS__})
+/* The values of an event's letters, in their order, and how many they are. */
+#define VALUES(...) ((const unsigned long[]){__VA_ARGS__}), \
+    sizeof((const unsigned long[]){__VA_ARGS__}) / sizeof(unsigned long)
 #define NO_VALUES VALUES(0)
 
 int main(void)
@@ -176,13 +180,17 @@ int main(void)
     if (callcontrol_fresh(call, sizeof call) != CALLCONTROL_RECORD_SIZE)
         return EXIT_FAILURE;
 
-    printf("One call, set up by its user to address 7\n");
-    play(call, CALLCONTROL_SETUP_REQUEST, VALUES(7, CALLCONTROL_SIMPLEX, 1));
+    printf("One call, set up by its user to address 7, with two slots\n");
+    play(call, CALLCONTROL_SETUP_REQUEST, VALUES(7, CALLCONTROL_SIMPLEX, 1, 2));
     play(call, CALLCONTROL_REPORT_SENT, NO_VALUES);
     play(call, CALLCONTROL_D_CALL_PROCEEDING, VALUES(21));
     play(call, CALLCONTROL_D_ALERT, VALUES(21));
     play(call, CALLCONTROL_D_CONNECT,
          VALUES(21, CALLCONTROL_QUEUED, CALLCONTROL_SIMPLEX, 3));
+
+    /* The network gives it four slots and changes nothing else: the present plane is told again. */
+    play(call, CALLCONTROL_D_INFO,
+         VALUES(21, 0, CALLCONTROL_T310_CODE_ABSENT, CALLCONTROL_SIMPLEX, 4));
 
     /* There is no grant 4: the byte at 6 is wrong. */
     play(call, CALLCONTROL_D_TX_GRANTED, VALUES(21, 4));

@@ -3,7 +3,7 @@
  * sizes, some of no bytes, the library's reader puts the records together again, and each is an
  * event for the call. Prints a line for each record, as the program calltrace does.
  *
- * The host keeps the 21 bytes of the call, the 2 bytes of the reader and its carry.
+ * The host keeps the bytes of the call, the 2 bytes of the reader and its carry.
  *
  *     gcc -std=c11 -Wall -Wextra -Werror -Iinclude examples/c/serial_line.c \
  *         target/staticlib/libhost.a -o target/serial_line

@@ -11,7 +11,7 @@
 enum { STACK = 65536, OUT = 64 };
 
 static uint8_t stack[STACK] __attribute__((aligned(16)));
-static uint8_t record[21], out[OUT];
+static uint8_t record[CALLCONTROL_RECORD_SIZE], out[OUT];
 static uint8_t tape[1 << 20];
 
 static uint32_t step_on(uint8_t *top, const uint8_t *event, size_t event_len)

@@ -7,7 +7,7 @@
 #include "painted.h"
 #include <stdio.h>
 
-enum { TABLE = 168, OUT = 256 };
+enum { TABLE = CALLCONTROL_TABLE_SIZE, OUT = 256 };
 
 static uint8_t table[TABLE], out[OUT];
 static uint8_t tape[1 << 20];

@@ -4,7 +4,7 @@
 //! Where boxes and arrows lie is laid out by hand below; what they say is found by exploring. A
 //! way from one box to another that has no place in the layout is an error, not left out.
 
-use crate::account::{Call, Event, Path, State, Timer};
+use crate::account::{Call, Event, Path, State, Timer, RECORD_LEN};
 use crate::explore::{alphabet, explore, written, Letters};
 use crate::sidebyside::Queue;
 use std::collections::BTreeMap;
@@ -29,7 +29,7 @@ impl Situation {
     const ALL: [Situation; 8] =
         [Idle, MoCallSetup, MtCallSetup, Up, Broken, Restoring, Wait, CallDisconnect];
 
-    fn of(record: &[u8; 21]) -> Situation {
+    fn of(record: &[u8; RECORD_LEN]) -> Situation {
         let state = State::from_number(record[0]).expect("a state");
         let path = Path::from_number(record[10]).expect("a path");
         match (state, path) {

@@ -11,6 +11,8 @@ pub struct Letters {
     pub addresses: &'static [u32],
     /// 16 stands for absent, where that is allowed.
     pub t310_codes: &'static [u8],
+    /// 0 stands for the old record, without them.
+    pub slots: &'static [u8],
 }
 
 impl Letters {
@@ -19,11 +21,24 @@ impl Letters {
         identifiers: &[0, 1, 2, 16383],
         addresses: &[0, 1, 16_777_215],
         t310_codes: &[0, 3, 15, 16],
+        slots: &[0, 4],
     };
 
     /// Enough to see every way from one state to another.
-    pub const FEW: Letters =
-        Letters { identifiers: &[0, 1, 2], addresses: &[0, 1], t310_codes: &[0, 3, 16] };
+    pub const FEW: Letters = Letters {
+        identifiers: &[0, 1, 2],
+        addresses: &[0, 1],
+        t310_codes: &[0, 3, 16],
+        slots: &[0, 2],
+    };
+
+    /// Every number of slots, and little else.
+    pub const SLOTS: Letters = Letters {
+        identifiers: &[0, 1, 2],
+        addresses: &[1],
+        t310_codes: &[3, 16],
+        slots: &[0, 1, 2, 3, 4],
+    };
 }
 
 /// Every event with these letters, by rising kind.
@@ -36,9 +51,14 @@ pub fn alphabet(letters: &Letters) -> Vec<Event> {
     let codes_or_absent: Vec<Option<u8>> =
         letters.t310_codes.iter().map(|&o| if o == 16 { None } else { Some(o) }).collect();
 
+    let slots: Vec<Option<u8>> =
+        letters.slots.iter().map(|&s| if s == 0 { None } else { Some(s) }).collect();
+
     for a in known {
         for &d in Mode::ALL {
-            events.extend(both.map(|q| Event::SetupRequest { a, d, q }));
+            for &s in &slots {
+                events.extend(both.map(|q| Event::SetupRequest { a, d, q, s }));
+            }
         }
     }
     events.push(Event::SetupResponse);
@@ -50,7 +70,9 @@ pub fn alphabet(letters: &Letters) -> Vec<Event> {
         events.push(Event::DAlert { i });
         for &g in Grant::ALL {
             for &o in &codes {
-                events.extend(Mode::ALL.iter().map(|&d| Event::DConnect { i, g, d, o }));
+                for &d in Mode::ALL {
+                    events.extend(slots.iter().map(|&s| Event::DConnect { i, g, d, o, s }));
+                }
                 events.push(Event::DConnectAcknowledge { i, g, o });
             }
             events.push(Event::DTxGranted { i, g });
@@ -62,7 +84,9 @@ pub fn alphabet(letters: &Letters) -> Vec<Event> {
         for &d in Mode::ALL {
             events.extend(letters.addresses.iter().map(|&a| Event::DSetup { i, a, d }));
             for &o in &codes_or_absent {
-                events.extend(both.map(|r| Event::DInfo { i, r, o, d }));
+                for &s in &slots {
+                    events.extend(both.map(|r| Event::DInfo { i, r, o, d, s }));
+                }
             }
         }
         events.push(Event::DTxCeased { i });

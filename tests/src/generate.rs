@@ -1,7 +1,11 @@
 //! What the tests are fed with: everything follows from a seed, so a failure can be run again.
 
-use crate::account::records::{MAX_ADDRESS, MAX_IDENTIFIER, MAX_RECORD_LEN, MAX_T310_CODE};
-use crate::account::{Call, Event, Grant, Message, Mode, Path, Plane, State, Timer, RECORD_LEN};
+use crate::account::records::{
+    MAX_ADDRESS, MAX_IDENTIFIER, MAX_RECORD_LEN, MAX_SLOTS, MAX_T310_CODE,
+};
+use crate::account::{
+    Call, Event, Grant, Message, Mode, Path, Plane, State, Timer, Verdict, RECORD_LEN,
+};
 
 /// Splitmix64: small, seedable, and good enough to choose test cases.
 pub struct Random(u64);
@@ -122,20 +126,54 @@ pub fn t310_code_or_absent(random: &mut Random) -> Option<u8> {
     }
 }
 
+pub fn slots(random: &mut Random) -> u8 {
+    1 + random.below(MAX_SLOTS as usize) as u8
+}
+
+/// The old record as often as the longer one.
+pub fn slots_or_none(random: &mut Random) -> Option<u8> {
+    random.flip().then(|| slots(random))
+}
+
+/// The event, half of the time with slots where it may carry them.
+fn with_or_without_slots(random: &mut Random, mut event: Event) -> Event {
+    if let Event::SetupRequest { s, .. } | Event::DConnect { s, .. } | Event::DInfo { s, .. } =
+        &mut event
+    {
+        *s = slots_or_none(random);
+    }
+    event
+}
+
 /// One event of any kind. Network events carry i.
 pub fn event(random: &mut Random, i: u16) -> Event {
+    let event = event_without_slots(random, i);
+    with_or_without_slots(random, event)
+}
+
+/// The same, with the old records alone.
+pub fn event_without_slots(random: &mut Random, i: u16) -> Event {
     let nonzero = if i == 0 { identifier(random) } else { i };
     match random.below(24) {
-        0 => Event::SetupRequest { a: known_address(random), d: mode(random), q: random.flip() },
+        0 => Event::SetupRequest {
+            a: known_address(random),
+            d: mode(random),
+            q: random.flip(),
+            s: None,
+        },
         1 => Event::SetupResponse,
         2 => Event::ReleaseRequest,
         3 => Event::TxRequest { k: random.flip() },
         4 => Event::ModifyRequest { d: mode(random) },
         5 => Event::DCallProceeding { i: nonzero },
         6 => Event::DAlert { i: nonzero },
-        7 => {
-            Event::DConnect { i: nonzero, g: grant(random), d: mode(random), o: t310_code(random) }
-        }
+        7 => Event::DConnect {
+            i: nonzero,
+            g: grant(random),
+            d: mode(random),
+            o: t310_code(random),
+            s: None,
+        },
         8 => Event::DConnectAcknowledge { i: nonzero, g: grant(random), o: t310_code(random) },
         9 => Event::DSetup { i: nonzero, a: address(random), d: mode(random) },
         10 => Event::DInfo {
@@ -143,6 +181,7 @@ pub fn event(random: &mut Random, i: u16) -> Event {
             r: random.flip(),
             o: t310_code_or_absent(random),
             d: mode(random),
+            s: None,
         },
         11 => Event::DTxGranted { i: nonzero, g: grant(random) },
         12 => Event::DTxCeased { i: nonzero },
@@ -170,8 +209,13 @@ pub fn message(random: &mut Random) -> Message {
     use crate::account::Cause;
     let i = identifier(random);
     let i_or_zero = if random.one_in(4) { 0 } else { i };
-    match random.below(22) {
-        0 => Message::USetup { a: known_address(random), d: mode(random), q: random.flip() },
+    match random.below(23) {
+        0 => Message::USetup {
+            a: known_address(random),
+            d: mode(random),
+            q: random.flip(),
+            s: slots_or_none(random),
+        },
         1 => Message::UConnect { i },
         2 => Message::UDisconnect { i: i_or_zero, c: random.pick(Cause::ALL) },
         3 => Message::URelease { i: i_or_zero },
@@ -195,13 +239,20 @@ pub fn message(random: &mut Random) -> Message {
         18 => Message::ReleaseConfirm,
         19 => Message::TxIndication { x: random.below(9) as u8 },
         20 => Message::Place { place: random.below(8) as u8 },
-        _ => Message::ModifyIndication { d: mode(random) },
+        21 => Message::ChannelAnswer { number: random.word() as u16, v: random.pick(Verdict::ALL) },
+        _ => Message::ModifyIndication { d: mode(random), s: slots(random) },
     }
 }
 
 /// An event a network and a user could well send now, so that runs get deep into a call.
 /// One in `ending` ends or may end the call.
 pub fn likely_event(random: &mut Random, call: &Call, ending: usize) -> Event {
+    let event = likely_event_without_slots(random, call, ending);
+    with_or_without_slots(random, event)
+}
+
+/// The same, with the old records alone.
+pub fn likely_event_without_slots(random: &mut Random, call: &Call, ending: usize) -> Event {
     let i = if call.identifier == 0 { identifier(random) } else { call.identifier };
     if random.one_in(ending) {
         return match random.below(5) {
@@ -217,7 +268,7 @@ pub fn likely_event(random: &mut Random, call: &Call, ending: usize) -> Event {
     match (call.state, call.path) {
         (State::Idle, _) => {
             if random.flip() {
-                Event::SetupRequest { a: known_address(random), d: mode(random), q: k }
+                Event::SetupRequest { a: known_address(random), d: mode(random), q: k, s: None }
             } else {
                 Event::DSetup { i, a: address(random), d: mode(random) }
             }
@@ -226,7 +277,13 @@ pub fn likely_event(random: &mut Random, call: &Call, ending: usize) -> Event {
             0 => Event::ReportSent,
             1 => Event::DCallProceeding { i },
             2 => Event::DAlert { i },
-            _ => Event::DConnect { i, g: grant(random), d: mode(random), o: t310_code(random) },
+            _ => Event::DConnect {
+                i,
+                g: grant(random),
+                d: mode(random),
+                o: t310_code(random),
+                s: None,
+            },
         },
         (State::MtCallSetup, _) => {
             if call.running(Timer::T301) {
@@ -238,7 +295,7 @@ pub fn likely_event(random: &mut Random, call: &Call, ending: usize) -> Event {
         (State::CallActive, Path::Up) => match random.below(13) {
             0..=2 => Event::TxRequest { k },
             3 => Event::ModifyRequest { d: mode(random) },
-            4 => Event::DInfo { i, r, o: t310_code_or_absent(random), d: mode(random) },
+            4 => Event::DInfo { i, r, o: t310_code_or_absent(random), d: mode(random), s: None },
             5..=7 => Event::DTxGranted { i, g: grant(random) },
             8 => Event::DTxCeased { i },
             9 => Event::DTxInterrupt { i, g: grant(random) },
@@ -300,6 +357,7 @@ pub fn sound_record(random: &mut Random) -> Call {
         kept: Plane::Off,
         t310_code: t310_code(random),
         timers: [(); 7].map(|()| random.flip()),
+        slots: slots(random),
     };
     if matches!(state, State::MoCallSetup | State::CallDisconnect) && random.one_in(3) {
         call.identifier = 0;
@@ -345,6 +403,7 @@ pub fn damaged_record(random: &mut Random) -> Bytes {
             record.bytes[0] = random.below(6) as u8;
             record.bytes[11] = 1 + random.below(4) as u8;
             record.bytes[12] = 1 + random.below(4) as u8;
+            record.bytes[21] = random.below(6) as u8;
         }
         changes => {
             for _ in 0..(1 + changes % 3) {

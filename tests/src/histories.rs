@@ -1,6 +1,6 @@
 //! Histories kept as files: what goes in as hex with comments, what must be printed as lines.
 
-use crate::account::State;
+use crate::account::{State, RECORD_LEN};
 use crate::library;
 use std::fs;
 use std::path::PathBuf;
@@ -54,11 +54,11 @@ pub fn bytes_of(hex: &str) -> Vec<u8> {
 /// What the paper says calltrace prints, with the steps made by `step` (record, event, out).
 pub fn trace(
     mut input: &[u8],
-    mut record: [u8; 21],
+    mut record: [u8; RECORD_LEN],
     step: impl Fn(&mut [u8], &[u8], &mut [u8]) -> u32,
 ) -> String {
     let mut lines = String::from("answer state plane bytes place\n");
-    let mut line = |word: u32, record: &[u8; 21]| {
+    let mut line = |word: u32, record: &[u8; RECORD_LEN]| {
         let state = State::from_number(record[0]).expect("a state");
         let ((answer, count), place) = (library::split(word), library::place(word));
         lines += &format!("{answer} {} {} {count} {place}\n", state.name(), record[11]);

@@ -1,7 +1,7 @@
 //! Calls of the library beside what should come of them: the words must be equal, the lent bytes
 //! must be equal, and no byte around them may have changed.
 
-use crate::account::boundary;
+use crate::account::{boundary, RECORD_LEN};
 use crate::library;
 use crate::request::{self, Request, OUT, RECORD};
 use std::io::Write;
@@ -37,8 +37,8 @@ impl<'a> Said<'a> {
     }
 
     /// The record after, which is as long as any record that was taken.
-    pub fn next(&self) -> [u8; 21] {
-        self.record.try_into().expect("still 21 bytes")
+    pub fn next(&self) -> [u8; RECORD_LEN] {
+        self.record.try_into().expect("still as long")
     }
 }
 

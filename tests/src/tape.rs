@@ -2,7 +2,10 @@
 
 use crate::account::console::{Console, PLACES};
 use crate::account::{Call, Event};
-use crate::generate::{damaged_event, event, likely_event, Bytes, Random};
+use crate::generate::{
+    damaged_event, event, event_without_slots, likely_event, likely_event_without_slots, Bytes,
+    Random,
+};
 
 pub const EVENTS: usize = 16_384;
 pub const OUT_LEN: usize = 64;
@@ -36,8 +39,21 @@ impl Tape {
 }
 
 /// Calls set up, granted, paused, broken, restored and released, one after another from fresh;
-/// about one event in ten is none of theirs, or damaged.
+/// about one event in ten is none of theirs, or damaged. None carries slots, so that what is measured on
+/// it can be compared with what was measured before there were any.
 pub fn tape() -> Tape {
+    tape_of(event_without_slots, likely_event_without_slots)
+}
+
+/// The same with slots in half of the events that may carry them.
+pub fn tape_with_slots() -> Tape {
+    tape_of(event, likely_event)
+}
+
+fn tape_of(
+    event: fn(&mut Random, u16) -> Event,
+    likely_event: fn(&mut Random, &Call, usize) -> Event,
+) -> Tape {
     let mut random = Random::new(0x7A9E);
     let mut tape = Tape { bytes: Vec::new(), ends: Vec::new() };
     let mut call = Call::FRESH;
@@ -70,7 +86,7 @@ impl ConsoleTape {
 }
 
 /// Up to eight calls at once from fresh, broken and restored together; about one event in ten is
-/// none of theirs, or damaged.
+/// none of theirs, or damaged. None carries slots.
 pub fn console_tape() -> ConsoleTape {
     let mut random = Random::new(0x7A9E_C045);
     let mut events = Vec::new();
@@ -88,12 +104,12 @@ pub fn console_tape() -> ConsoleTape {
         };
         let bytes = match random.below(40) {
             0 => {
-                let event = event(&mut random, call.identifier);
+                let event = event_without_slots(&mut random, call.identifier);
                 damaged_event(&mut random, event)
             }
-            1 | 2 => Bytes::of_event(event(&mut random, call.identifier)),
+            1 | 2 => Bytes::of_event(event_without_slots(&mut random, call.identifier)),
             3 => Bytes::of_event(random.pick(&[Event::Break, Event::Resume])),
-            _ => Bytes::of_event(likely_event(&mut random, &call, 20)),
+            _ => Bytes::of_event(likely_event_without_slots(&mut random, &call, 20)),
         };
         let _ = console.step(place as u8, bytes.as_slice(), &mut [0; CONSOLE_OUT_LEN]);
         events.push((place as u8, bytes));

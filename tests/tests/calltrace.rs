@@ -54,6 +54,7 @@ histories! {
     no_limit_outgoing
     no_limit_restored
     own_transmission
+    slots
     expiry_t301
     expiry_t302
     expiry_t303

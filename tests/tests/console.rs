@@ -5,7 +5,9 @@
 //! written, by the step of a single call alone.
 
 use callcontrol_tests::account::console::{self, Console, Goes, PLACES, TABLE_LEN};
-use callcontrol_tests::account::{records, Call, Event, History, Message, Plane, State, Timer};
+use callcontrol_tests::account::{
+    records, Call, Event, History, Message, Plane, State, Timer, RECORD_LEN,
+};
 use callcontrol_tests::explore::{alphabet, written, Letters};
 use callcontrol_tests::generate::{
     damaged_event, damaged_record, event, identifier, likely_event, sound_record, Bytes, Random,
@@ -32,7 +34,7 @@ const ANSWERS: [usize; 11] = [0, 1, 2, 3, 4, 40, 41, 42, 43, 5, 6];
 
 /// A table's record at a place.
 fn record(table: &[u8], place: usize) -> &[u8] {
-    &table[21 * place..][..21]
+    &table[RECORD_LEN * place..][..RECORD_LEN]
 }
 
 fn call(table: &[u8], place: usize) -> Call {
@@ -131,8 +133,8 @@ impl<'a> Host<'a> {
     fn fresh(queue: &'a mut Queue) -> Host<'a> {
         let request = Request::of(Function::ConsoleFresh, &[0xEE; TABLE_LEN], &[], 0, 0xEE);
         let said = queue.check(&request, |table, _, _| console::fresh(table));
-        assert_eq!((said.answer, said.count), (0, TABLE_LEN), "fresh counts its 168 bytes");
-        let table = said.record.try_into().expect("still 168 bytes");
+        assert_eq!((said.answer, said.count), (0, TABLE_LEN), "fresh counts its 176 bytes");
+        let table = said.record.try_into().expect("still as long");
         let alone = [(Call::FRESH, History::EMPTY, Plane::Off); PLACES];
         Host { queue, table, alone, answers: [0; 44], most: [0; 3], calls: 0 }
     }
@@ -180,7 +182,7 @@ impl<'a> Host<'a> {
                 let messages = told.iter().find(|(at, _)| *at == place);
                 assert_eq!(messages.map_or(&[][..], |(_, bytes)| bytes), &out[..count]);
             }
-            self.table = said.record.try_into().expect("still 168 bytes");
+            self.table = said.record.try_into().expect("still as long");
             identifiers_apart(&self.table);
             for (place, (alone, history, told)) in self.alone.iter().enumerate() {
                 let held = call(&self.table, place);
@@ -331,25 +333,26 @@ fn damaged_tables(seed: u64) -> Answers {
         let mut table = console.pack().to_vec();
         let (one, other) = (random.below(PLACES), random.below(PLACES));
         match random.below(6) {
-            0 => table.resize(random.pick(&[0, 1, 21, 84, 147, 167, 169, 189, 336]), 0),
+            0 => table.resize(random.pick(&[0, 1, 22, 88, 154, 168, 175, 177, 198, 352]), 0),
             1 => {
                 let damaged = damaged_record(&mut random);
-                let record = &mut table[21 * one..][..21];
-                let len = damaged.as_slice().len().min(21);
+                let record = &mut table[RECORD_LEN * one..][..RECORD_LEN];
+                let len = damaged.as_slice().len().min(RECORD_LEN);
                 record[..len].copy_from_slice(&damaged.as_slice()[..len]);
             }
-            2 => table[21 * one..][..21].copy_from_slice(&console.calls[other].pack()),
+            2 => table[RECORD_LEN * one..][..RECORD_LEN]
+                .copy_from_slice(&console.calls[other].pack()),
             3 => {
                 // Two places with one identifier, whatever else they are.
                 let mut call = console.calls[one];
                 call.identifier = console.calls[other].identifier;
-                table[21 * one..][..21].copy_from_slice(&call.pack());
+                table[RECORD_LEN * one..][..RECORD_LEN].copy_from_slice(&call.pack());
             }
             4 => {
                 for at in [one, other] {
                     let mut call = console.calls[at];
                     call.identifier = 0;
-                    table[21 * at..][..21].copy_from_slice(&call.pack());
+                    table[RECORD_LEN * at..][..RECORD_LEN].copy_from_slice(&call.pack());
                 }
             }
             _ => {
@@ -412,7 +415,8 @@ fn library_and_account_agree_on_generated_events() {
 /// it at every place that it can name, and one that is none.
 #[test]
 fn every_table_of_two_busy_places_and_every_event() {
-    const FEW: Letters = Letters { identifiers: &[0, 1, 2], addresses: &[1], t310_codes: &[3] };
+    const FEW: Letters =
+        Letters { identifiers: &[0, 1, 2], addresses: &[1], t310_codes: &[3], slots: &[0] };
     let events: Vec<(Event, Bytes)> = written(alphabet(&FEW))
         .into_iter()
         .filter(|(event, _)| match *event {
@@ -452,11 +456,11 @@ fn every_table_of_two_busy_places_and_every_event() {
                 if said.answer != 0 {
                     continue;
                 }
-                let next: [u8; TABLE_LEN] = said.record.try_into().expect("still 168 bytes");
+                let next: [u8; TABLE_LEN] = said.record.try_into().expect("still as long");
                 let written = said.written();
                 Turn { before: &table, event: bytes, answer: 0, after: &next, written }.taken_by();
                 identifiers_apart(&next);
-                let busy = (0..PLACES).filter(|&at| next[21 * at] != 0).count();
+                let busy = (0..PLACES).filter(|&at| next[RECORD_LEN * at] != 0).count();
                 if busy <= 2 && seen.insert(next) {
                     waiting.push_back(next);
                 }
@@ -483,12 +487,12 @@ fn d_setup(i: u16) -> Event {
 
 fn set_up() -> Event {
     use callcontrol_tests::account::Mode;
-    Event::SetupRequest { a: 7, d: Mode::Simplex, q: true }
+    Event::SetupRequest { a: 7, d: Mode::Simplex, q: true, s: None }
 }
 
 fn d_connect(i: u16) -> Event {
     use callcontrol_tests::account::{Grant, Mode};
-    Event::DConnect { i, g: Grant::Granted, d: Mode::Simplex, o: 3 }
+    Event::DConnect { i, g: Grant::Granted, d: Mode::Simplex, o: 3, s: None }
 }
 
 /// The bounds that are said of a reached table, each reached: 37 for one place, 128 for BREAK, 184 for
@@ -538,7 +542,12 @@ fn what_writes_nothing_needs_no_room() {
 #[test]
 fn every_place_beside_every_kind_of_event() {
     let mut queue = Queue::new();
-    let kinds = alphabet(&Letters { identifiers: &[0, 1], addresses: &[1], t310_codes: &[3] });
+    let kinds = alphabet(&Letters {
+        identifiers: &[0, 1],
+        addresses: &[1],
+        t310_codes: &[3],
+        slots: &[0, 2],
+    });
     let mut host = Host::fresh(&mut queue);
     host.taken(0, d_setup(1));
     let table = host.table;
@@ -593,9 +602,9 @@ fn refusals_come_in_their_order() {
 
     // 1 before all: each of its reasons, with an event that would be 2, 3, 4, 40, 41, 42, 5 or 6.
     let mut unsound = held(&[]);
-    unsound[21 * 7 + 9] = 1;
+    unsound[RECORD_LEN * 7 + 9] = 1;
     let mut no_record = held(&[]);
-    no_record[21 * 3] = 6;
+    no_record[RECORD_LEN * 3] = 6;
     let events = [
         bytes_of(Event::ReleaseRequest),
         bytes_of(d_setup(1)),
@@ -745,7 +754,7 @@ fn two_places_at_work() {
 }
 
 #[test]
-fn fresh_is_written_only_to_168_bytes() {
+fn fresh_is_written_only_to_176_bytes() {
     let mut queue = Queue::new();
     for len in 0..=400 {
         let bytes = vec![0x99; len];
@@ -753,7 +762,7 @@ fn fresh_is_written_only_to_168_bytes() {
         let said = queue.check(&request, |table, _, _| console::fresh(table));
         assert_eq!(said.answer, u32::from(len != TABLE_LEN));
         if len == TABLE_LEN {
-            let fresh = [0, 0, 0, 0, 0, 0, 0, 0, 0, 0, 0, 4, 4, 0, 0, 0, 0, 0, 0, 0, 0];
+            let fresh = [0, 0, 0, 0, 0, 0, 0, 0, 0, 0, 0, 4, 4, 0, 0, 0, 0, 0, 0, 0, 0, 1];
             assert_eq!(said.record, fresh.repeat(8));
         }
     }

@@ -90,8 +90,8 @@ fn runs_from_fresh(seed: u64) -> Answers {
         left -= steps;
 
         let fresh =
-            queue.check(&Request::fresh(&[0xEE; 21], 0xEE), |record, _, _| boundary::fresh(record));
-        assert_eq!((fresh.answer, fresh.count), (0, 21), "fresh is answer 0 and 21 bytes");
+            queue.check(&Request::fresh(&[0xEE; 22], 0xEE), |record, _, _| boundary::fresh(record));
+        assert_eq!((fresh.answer, fresh.count), (0, 22), "fresh is answer 0 and 22 bytes");
         let mut record = fresh.next();
         let mut history = History::EMPTY;
         let mut told = Plane::Off;
@@ -125,12 +125,14 @@ fn runs_from_fresh(seed: u64) -> Answers {
                     }
                 }
             }
-            let Call { state, plane, timers, .. } =
+            let Call { state, plane, timers, slots, .. } =
                 Call::unpack(&record).expect("a step gives a record back");
             assert_eq!(running.timers, timers, "the timers by the messages are those held");
             assert!(state != State::Idle || running == Running::NONE, "none runs in IDLE");
             assert_eq!(told, plane, "the last CONFIGURE is the plane held");
             assert_eq!(history.plane(), plane, "the plane by history is the plane held");
+            let by_history = if state == State::Idle { 1 } else { history.slots() };
+            assert_eq!(by_history, slots, "the slots by history are the slots held");
         }
     }
     queue.finish();

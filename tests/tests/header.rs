@@ -93,6 +93,48 @@ fn the_headers_kinds_are_the_librarys_kinds() {
     }
 }
 
+/// The value of a `#define` of the header that is a number.
+fn defined(name: &str) -> u32 {
+    let header = fs::read_to_string(root().join("include/callcontrol.h")).expect("the header");
+    let find = |line: &str| {
+        let value = line.strip_prefix("#define ")?.strip_prefix(name)?.strip_prefix(' ')?;
+        value.split_once('u').expect("an unsigned number").0.parse().ok()
+    };
+    header.lines().find_map(find).unwrap_or_else(|| panic!("{name} is not defined"))
+}
+
+#[test]
+fn the_headers_sizes_are_the_librarys() {
+    let mut queue = Queue::new();
+    for (function, name) in [
+        (Function::Fresh, "CALLCONTROL_RECORD_SIZE"),
+        (Function::ConsoleFresh, "CALLCONTROL_TABLE_SIZE"),
+    ] {
+        let bytes = vec![0xEE; defined(name) as usize];
+        let said =
+            queue.check(
+                &Request::of(function, &bytes, &[], 0, 0x11),
+                |bytes, _, _| match function {
+                    Function::Fresh => boundary::fresh(bytes),
+                    _ => callcontrol_tests::account::console::fresh(bytes),
+                },
+            );
+        assert_eq!((said.answer, said.count), (0, bytes.len()), "{name}");
+    }
+    queue.finish();
+    // s, at the end of D-INFO.
+    let slots: BTreeSet<u32> = (1..=defined("CALLCONTROL_SLOTS_MAX")).collect();
+    let known = answered(
+        Function::CheckEvent,
+        |answer| answer == 0,
+        0..=255,
+        |s| vec![10, 0, 0x06, 0x02, 1, 0, 0, 16, 0, s as u8],
+    );
+    assert_eq!(slots, known);
+    let fields = enumerators("callcontrol_field");
+    assert_eq!(fields.last(), Some(&("CALLCONTROL_AT_SLOTS".to_owned(), 21)));
+}
+
 #[test]
 fn the_headers_timers_and_planes_are_the_librarys() {
     let timers: BTreeSet<u32> =

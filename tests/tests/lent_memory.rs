@@ -56,7 +56,7 @@ fn nothing_beyond_the_lent_bytes_is_touched() {
         }
 
         // And a record to be made fresh.
-        let len = random.pick(&[0, 1, 20, 21, 21, 21, 22, 64]);
+        let len = random.pick(&[0, 1, 21, 22, 22, 22, 23, 64]);
         let fresh = [0x77; 64];
         let fresh = Request::fresh(&fresh[..len], 0x77).at(places);
         queue.check(&fresh, |record, _, _| boundary::fresh(record));

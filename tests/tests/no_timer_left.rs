@@ -3,7 +3,7 @@
 //! call writes at most one U-DISCONNECT and one U-RELEASE; and a release ends.
 
 use callcontrol_tests::account::running::Running;
-use callcontrol_tests::account::{records, Call, Event, Message, State, Timer};
+use callcontrol_tests::account::{records, Call, Event, Message, State, Timer, RECORD_LEN};
 use callcontrol_tests::explore::{alphabet, explore, written, Letters};
 use callcontrol_tests::generate::Bytes;
 use callcontrol_tests::sidebyside::{tell, Queue};
@@ -12,7 +12,7 @@ use std::collections::HashSet;
 /// A record with what was read from events and messages on the way to it.
 #[derive(Clone, Copy, PartialEq, Eq, Hash)]
 struct Node {
-    record: [u8; 21],
+    record: [u8; RECORD_LEN],
     running: Running,
     /// Written in this call so far.
     u_disconnects: u8,
@@ -20,7 +20,7 @@ struct Node {
 }
 
 const FIRST: Node = Node {
-    record: [0, 0, 0, 0, 0, 0, 0, 0, 0, 0, 0, 4, 4, 0, 0, 0, 0, 0, 0, 0, 0],
+    record: [0, 0, 0, 0, 0, 0, 0, 0, 0, 0, 0, 4, 4, 0, 0, 0, 0, 0, 0, 0, 0, 1],
     running: Running::NONE,
     u_disconnects: 0,
     u_releases: 0,
@@ -31,7 +31,7 @@ fn call(record: &[u8]) -> Call {
 }
 
 impl Node {
-    fn then(&self, event: Event, record: [u8; 21], written: &[u8]) -> Node {
+    fn then(&self, event: Event, record: [u8; RECORD_LEN], written: &[u8]) -> Node {
         let mut next = Node { record, running: self.running.taken(event), ..*self };
         if call(&self.record).state == State::Idle {
             // The turn that leaves IDLE begins a call.
@@ -92,7 +92,7 @@ fn every_reached_record_runs_the_timers_that_its_messages_say() {
         }
     }
     queue.finish();
-    let records: HashSet<[u8; 21]> = nodes.iter().map(|node| node.record).collect();
+    let records: HashSet<[u8; RECORD_LEN]> = nodes.iter().map(|node| node.record).collect();
     tell(&format!(
         "{} records reached ({} with what led to them), {steps} steps; {taken} expiries taken, {late} late",
         records.len(),
@@ -110,9 +110,9 @@ fn two_calls_one_after_the_other() {
     let granted = Grant::Granted;
     let d = Mode::Simplex;
     let turns: &[(Event, &[Timer])] = &[
-        (Event::SetupRequest { a: 7, d, q: true }, &[T303]),
+        (Event::SetupRequest { a: 7, d, q: true, s: None }, &[T303]),
         (Event::DCallProceeding { i: 21 }, &[T302]),
-        (Event::DConnect { i: 21, g: granted, d, o: 3 }, &[T310, T311]),
+        (Event::DConnect { i: 21, g: granted, d, o: 3, s: None }, &[T310, T311]),
         (Event::Expiry { n: T311 }, &[T310]),
         (Event::DTxGranted { i: 21, g: granted }, &[T310, T311]),
         (Event::Break, &[T310]),

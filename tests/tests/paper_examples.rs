@@ -1,18 +1,19 @@
 //! The paper's checked examples and easy slips, one by one, through the library.
 
+use callcontrol_tests::account::RECORD_LEN;
 use callcontrol_tests::histories::bytes_of;
 use callcontrol_tests::library::{fresh, split, step};
 
 /// A call held by a host, with what the last step wrote.
 struct Host {
-    record: [u8; 21],
+    record: [u8; RECORD_LEN],
     written: Vec<u8>,
 }
 
 impl Host {
     fn fresh() -> Host {
-        let mut record = [0xFF; 21];
-        assert_eq!(split(fresh(&mut record)), (0, 21));
+        let mut record = [0xFF; RECORD_LEN];
+        assert_eq!(split(fresh(&mut record)), (0, 22));
         Host { record, written: Vec::new() }
     }
 
@@ -146,7 +147,7 @@ fn plane_1_asked_0_d_tx_wait_break_resume_asks_q_0() {
 fn d_connect_needs_32_bytes_and_31_give_7() {
     let mut host = Host::fresh();
     host.taken(SETUP_REQUEST);
-    assert_eq!(host.record[14..], [0, 0, 1, 0, 0, 0, 0], "T303 alone runs");
+    assert_eq!(host.record[14..21], [0, 0, 1, 0, 0, 0, 0], "T303 alone runs");
     assert_eq!(host.with_room(31, D_CONNECT_GRANTED), 7);
     assert_eq!(host.with_room(32, D_CONNECT_GRANTED), 0);
     assert_eq!(host.state(), CALL_ACTIVE);

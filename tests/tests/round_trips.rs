@@ -37,6 +37,12 @@ enum Letter {
     X,
     /// The place of a console, 0..7.
     Place,
+    /// Slots per frame, 1..4.
+    S,
+    /// A question's number, any.
+    U,
+    /// What it is answered, 0..2.
+    V,
 }
 
 use Letter::*;
@@ -47,7 +53,7 @@ impl Letter {
     fn size(self) -> usize {
         match self {
             A | A0 => 4,
-            I | I0 | N => 2,
+            I | I0 | N | U => 2,
             NO => 3,
             _ => 1,
         }
@@ -68,9 +74,11 @@ impl Letter {
                 let (n, o) = (value & 0xFFFF, value >> 16);
                 TIMERS.contains(&n) && o <= if n == 310 { 15 } else { 0 }
             }
-            C | P => (1..=4).contains(&value),
+            C | P | S => (1..=4).contains(&value),
             X => value <= 8,
             Place => value <= 7,
+            U => value <= 65535,
+            V => value <= 2,
         }
     }
 
@@ -87,7 +95,7 @@ impl Letter {
     /// Values at and around every edge of the range, in and out of it.
     fn edges(self) -> Vec<u64> {
         match self {
-            I | I0 => vec![0, 1, 2, 255, 256, 16382, 16383, 16384, 16385, 32768, 65535],
+            I | I0 | U => vec![0, 1, 2, 255, 256, 16382, 16383, 16384, 16385, 32768, 65535],
             A | A0 => vec![
                 0,
                 1,
@@ -119,11 +127,13 @@ impl Letter {
     }
 }
 
+/// A kind that may carry slots has a line for each of its two bodies.
 #[rustfmt::skip]
 const EVENTS: &[(u16, &[Letter])] = &[
-    (0x0101, &[A, Bit, Bit]), (0x0102, &[]), (0x0103, &[]), (0x0104, &[Bit]), (0x0105, &[Bit]),
-    (0x0201, &[I]), (0x0202, &[I]), (0x0203, &[I, G, Bit, O]), (0x0204, &[I, G, O]),
-    (0x0205, &[I, A0, Bit]), (0x0206, &[I, Bit, O16, Bit]), (0x0207, &[I, G]), (0x0208, &[I]),
+    (0x0101, &[A, Bit, Bit]), (0x0101, &[A, Bit, Bit, S]), (0x0102, &[]), (0x0103, &[]), (0x0104, &[Bit]), (0x0105, &[Bit]),
+    (0x0201, &[I]), (0x0202, &[I]), (0x0203, &[I, G, Bit, O]), (0x0203, &[I, G, Bit, O, S]),
+    (0x0204, &[I, G, O]), (0x0205, &[I, A0, Bit]),
+    (0x0206, &[I, Bit, O16, Bit]), (0x0206, &[I, Bit, O16, Bit, S]), (0x0207, &[I, G]), (0x0208, &[I]),
     (0x0209, &[I, G]), (0x020A, &[I]), (0x020B, &[I, Bit]), (0x020C, &[I, G, Bit, O16]),
     (0x020D, &[I0]), (0x020E, &[I0]),
     (0x0301, &[]), (0x0302, &[]), (0x0303, &[]), (0x0304, &[]),
@@ -132,11 +142,11 @@ const EVENTS: &[(u16, &[Letter])] = &[
 
 #[rustfmt::skip]
 const MESSAGES: &[(u16, &[Letter])] = &[
-    (0x0501, &[A, Bit, Bit]), (0x0502, &[I]), (0x0503, &[I0, C]), (0x0504, &[I0]),
+    (0x0501, &[A, Bit, Bit]), (0x0501, &[A, Bit, Bit, S]), (0x0502, &[I]), (0x0503, &[I0, C]), (0x0504, &[I0]),
     (0x0505, &[I, Bit]), (0x0506, &[I]), (0x0507, &[I]), (0x0508, &[I, A0, Bit]),
-    (0x0601, &[N]), (0x0602, &[NO]), (0x0603, &[P]), (0x0604, &[]), (0x0605, &[Place]),
+    (0x0601, &[N]), (0x0602, &[NO]), (0x0603, &[P]), (0x0604, &[]), (0x0605, &[Place]), (0x0606, &[U, V]),
     (0x0701, &[I, A0, Bit]), (0x0702, &[I, G]), (0x0703, &[]), (0x0704, &[]), (0x0705, &[G]),
-    (0x0706, &[C]), (0x0707, &[]), (0x0708, &[X]), (0x0709, &[Bit]),
+    (0x0706, &[C]), (0x0707, &[]), (0x0708, &[X]), (0x0709, &[Bit, S]),
 ];
 
 /// What the readers give for a body of the right size: answer and place of the first bad field.
@@ -149,6 +159,10 @@ fn expected(letters: &[Letter], values: &[u64]) -> Expected {
         at += letter.size();
     }
     TAKEN
+}
+
+fn size_of(letters: &[Letter]) -> usize {
+    letters.iter().map(|letter| letter.size()).sum()
 }
 
 /// Answer and place.
@@ -198,6 +212,12 @@ const SIDES: [Side; 2] = [
 ];
 
 impl Side {
+    /// The letters of a body of this kind and size.
+    fn letters(&self, kind: u16, size: usize) -> Option<&'static [Letter]> {
+        let fits = |line: &&(u16, &[Letter])| line.0 == kind && size_of(line.1) == size;
+        self.kinds.iter().find(fits).map(|line| line.1)
+    }
+
     /// Hands `bytes` to the library's reader and, with every length of buffer that matters, to
     /// its writer, and compares with `expected` and with the account.
     fn expect(&self, queue: &mut Queue, bytes: &[u8], expected: Expected) {
@@ -270,7 +290,8 @@ fn every_combination_of_edge_values_is_read_exactly_when_each_is_in_range() {
             let edges: Vec<Vec<u64>> = letters
                 .iter()
                 .map(|letter| match letter {
-                    Bit | G | C | P => (0..=5).chain([255]).collect(),
+                    Bit | G | C | P | V => (0..=5).chain([255]).collect(),
+                    S => vec![0, 1, 4, 5, 255],
                     O | O16 => vec![0, 1, 3, 14, 15, 16, 17, 255],
                     X | Place => (0..=10).chain([255]).collect(),
                     _ => letter.edges(),
@@ -379,6 +400,21 @@ fn places_counted_by_hand() {
     event(&[9, 0, 0x06, 0x02, 1, 0, 1, 17, 2], 7);
     event(&[9, 0, 0x06, 0x02, 1, 0, 1, 16, 2], 8);
     event(&[6, 0, 0x01, 0x04, 0x31, 0x01], 4);
+    // Slots at the end of a longer body: at 10 in SETUP request, at 9 in D-CONNECT and D-INFO.
+    for s in [0, 5, 255] {
+        event(&[11, 0, 0x01, 0x01, 7, 0, 0, 0, 1, 1, s], 10);
+        event(&[10, 0, 0x03, 0x02, 1, 0, 3, 1, 15, s], 9);
+        event(&[10, 0, 0x06, 0x02, 1, 0, 1, 16, 1, s], 9);
+    }
+    event(&[11, 0, 0x01, 0x01, 7, 0, 0, 0, 1, 2, 5], 9);
+    event(&[10, 0, 0x03, 0x02, 1, 0, 3, 1, 16, 0], 8);
+    // A size that is neither of the two; and no other kind has a second.
+    event(&[12, 0, 0x01, 0x01, 7, 0, 0, 0, 1, 1, 4, 4], 2);
+    event(&[8, 0, 0x03, 0x02, 1, 0, 3, 1], 2);
+    event(&[11, 0, 0x06, 0x02, 1, 0, 1, 16, 1, 4, 4], 2);
+    event(&[9, 0, 0x04, 0x02, 1, 0, 3, 15, 4], 2);
+    event(&[12, 0, 0x05, 0x02, 1, 0, 9, 0, 0, 0, 1, 4], 2);
+    event(&[10, 0, 0x0C, 0x02, 1, 0, 3, 1, 16, 4], 2);
     // The size comes before the fields.
     event(&[9, 0, 0x01, 0x01, 0, 0, 0, 0, 2], 2);
     event(&[5, 0, 0x02, 0x01, 0xFF], 2);
@@ -393,6 +429,16 @@ fn places_counted_by_hand() {
     message(&[11, 0, 0x08, 0x05, 1, 0, 0, 0, 0, 1, 2], 6);
     message(&[11, 0, 0x08, 0x05, 1, 0, 0, 0, 0, 0, 2], 10);
     message(&[4, 0, 0x03, 0x06], 2);
+    // 0606 u v: v at 6.
+    message(&[7, 0, 0x06, 0x06, 0xFF, 0xFF, 3], 6);
+    // U-SETUP with slots, at 10; MODIFY indication d s always has them, at 5.
+    message(&[11, 0, 0x01, 0x05, 7, 0, 0, 0, 1, 1, 5], 10);
+    message(&[11, 0, 0x01, 0x05, 7, 0, 0, 0, 1, 1, 0], 10);
+    message(&[12, 0, 0x01, 0x05, 7, 0, 0, 0, 1, 1, 1, 1], 2);
+    message(&[6, 0, 0x09, 0x07, 2, 5], 4);
+    message(&[6, 0, 0x09, 0x07, 1, 5], 5);
+    message(&[6, 0, 0x09, 0x07, 0, 0], 5);
+    message(&[5, 0, 0x09, 0x07, 1], 2);
     queue.finish();
 }
 
@@ -508,10 +554,12 @@ fn each_body_size_but_the_right_one_is_4() {
             for len in 4..=40 {
                 let mut bytes = whole.clone();
                 bytes.resize(len, 1);
-                let expected = if len == whole.len() { TAKEN } else { SIZE };
+                // One byte more or less may be the kind's other body: 1 is in range for slots.
+                let fits = side.letters(kind, len - 4).is_some();
+                let expected = if fits { TAKEN } else { SIZE };
                 side.expect(&mut queue, &with_length_field(&bytes, len as u16), expected);
                 // The size is checked before the fields: 255 is in range for none of them.
-                if len != whole.len() {
+                if !fits {
                     bytes[4..].fill(255);
                     side.expect(&mut queue, &with_length_field(&bytes, len as u16), SIZE);
                 }
@@ -533,19 +581,17 @@ fn all_65536_kinds_with_several_body_sizes() {
                 let mut bytes = vec![1u8; 4 + body_len];
                 bytes[..2].copy_from_slice(&(4 + body_len as u16).to_le_bytes());
                 bytes[2..4].copy_from_slice(&kind.to_le_bytes());
-                let expected = match known {
-                    None => KIND,
-                    Some((_, letters)) => {
-                        let size: usize = letters.iter().map(|letter| letter.size()).sum();
+                let expected = match (known, side.letters(kind, body_len)) {
+                    (None, _) => KIND,
+                    (_, None) => SIZE,
+                    (_, Some(letters)) => {
                         // 01 01 01 01 is an address over its range, and it never stands behind n.
                         let out_of_range = |letter: &Letter| matches!(letter, N | NO | A | A0);
                         let before = letters.iter().take_while(|letter| !out_of_range(letter));
-                        match size == body_len {
-                            false => SIZE,
-                            true if letters.iter().any(out_of_range) => {
-                                bad(4 + before.map(|letter| letter.size()).sum::<usize>())
-                            }
-                            true => TAKEN,
+                        if letters.iter().any(out_of_range) {
+                            bad(4 + before.map(|letter| letter.size()).sum::<usize>())
+                        } else {
+                            TAKEN
                         }
                     }
                 };
@@ -564,16 +610,17 @@ fn all_65536_kinds_with_several_body_sizes() {
 }
 
 #[test]
-fn fresh_is_written_only_to_21_bytes() {
+fn fresh_is_written_only_to_22_bytes() {
     let mut queue = Queue::new();
     for len in 0..=64 {
         queue.check(&Request::fresh(&vec![0x99; len], 0x99), |record, _, _| {
-            if len != 21 {
+            if len != 22 {
                 return word((1, 0));
             }
-            record
+            record[..21]
                 .copy_from_slice(&[0, 0, 0, 0, 0, 0, 0, 0, 0, 0, 0, 4, 4, 0, 0, 0, 0, 0, 0, 0, 0]);
-            21
+            record[21] = 1;
+            22
         });
     }
     queue.finish();

@@ -144,15 +144,15 @@ fn idle() {
     let fresh = Call::FRESH;
     row(
         fresh,
-        SetupRequest { a: A, d: Simplex, q: false },
+        SetupRequest { a: A, d: Simplex, q: false, s: None },
         mo(),
-        &[USetup { a: A, d: Simplex, q: false }, start(T303)],
+        &[USetup { a: A, d: Simplex, q: false, s: None }, start(T303)],
     );
     row(
         fresh,
-        SetupRequest { a: 16_777_215, d: Duplex, q: true },
+        SetupRequest { a: 16_777_215, d: Duplex, q: true, s: None },
         duplex(asked(Call { address: 16_777_215, ..mo() })),
-        &[USetup { a: 16_777_215, d: Duplex, q: true }, start(T303)],
+        &[USetup { a: 16_777_215, d: Duplex, q: true, s: None }, start(T303)],
     );
     row(
         fresh,
@@ -197,7 +197,7 @@ fn mo_call_setup() {
     row(mo_proceeding(), DAlert { i: I }, mo_proceeding(), &[start(T302), Alert]);
     refused(5, mo_proceeding(), DAlert { i: I + 1 });
 
-    let connect = |g, d, o| DConnect { i: I, g, d, o };
+    let connect = |g, d, o| DConnect { i: I, g, d, o, s: None };
     let t310 = |o| Start { n: T310, o };
     let confirm = |g| SetupConfirm { i: I, g };
     row(
@@ -254,7 +254,7 @@ fn mo_call_setup() {
     no_row(mo(), Expiry { n: T302 });
     no_row(mo(), DConnectAcknowledge { i: I, g: Granted, o: 0 });
     no_row(mo(), DSetup { i: I, a: A, d: Simplex });
-    no_row(mo(), SetupRequest { a: A, d: Simplex, q: false });
+    no_row(mo(), SetupRequest { a: A, d: Simplex, q: false, s: None });
     no_row(mo(), Break);
 
     // 0 is held: every i agrees.
@@ -380,9 +380,9 @@ fn call_active_path_up_by_the_user() {
 /// written. A held 0 counts too.
 #[test]
 fn t310_without_a_limit() {
-    let info = |r, o| DInfo { i: I, r, o, d: Simplex };
+    let info = |r, o| DInfo { i: I, r, o, d: Simplex, s: None };
     for &plane in &[Plane::Receive, Plane::Off] {
-        let again = [Configure { p: plane }, ModifyIndication { d: Simplex }];
+        let again = [Configure { p: plane }, ModifyIndication { d: Simplex, s: 1 }];
         let stopping = [&[stop(T310)], &again[..]].concat();
         let starting = [&[Start { n: T310, o: 9 }], &again[..]].concat();
         let (limited, unlimited) = (active(plane), unlimited(active(plane)));
@@ -410,7 +410,7 @@ fn t310_without_a_limit() {
     // Sound and out of reach: T310 runs before the call is connected.
     row(
         with(mo(), &[T303, T310]),
-        DConnect { i: I, g: NotGranted, d: Simplex, o: 0 },
+        DConnect { i: I, g: NotGranted, d: Simplex, o: 0, s: None },
         unlimited_off,
         &[stop(T303), stop(T310), OFF, SetupConfirm { i: I, g: NotGranted }],
     );
@@ -426,24 +426,34 @@ fn t310_without_a_limit() {
 
 #[test]
 fn d_info() {
-    let info = |r, o, d| DInfo { i: I, r, o, d };
+    let info = |r, o, d| DInfo { i: I, r, o, d, s: None };
     for &plane in &[Plane::Receive, Plane::Off] {
         let call = active(plane);
         let again = Configure { p: plane };
         // The mode stays: the plane is told again.
-        row(call, info(false, None, Simplex), call, &[again, ModifyIndication { d: Simplex }]);
-        row(call, info(false, Some(9), Simplex), call, &[again, ModifyIndication { d: Simplex }]);
+        row(
+            call,
+            info(false, None, Simplex),
+            call,
+            &[again, ModifyIndication { d: Simplex, s: 1 }],
+        );
+        row(
+            call,
+            info(false, Some(9), Simplex),
+            call,
+            &[again, ModifyIndication { d: Simplex, s: 1 }],
+        );
         row(
             call,
             info(true, Some(9), Simplex),
             Call { t310_code: 9, ..call },
-            &[Start { n: T310, o: 9 }, again, ModifyIndication { d: Simplex }],
+            &[Start { n: T310, o: 9 }, again, ModifyIndication { d: Simplex, s: 1 }],
         );
         row(
             call,
             info(true, None, Simplex),
             call,
-            &[Start { n: T310, o: 3 }, again, ModifyIndication { d: Simplex }],
+            &[Start { n: T310, o: 3 }, again, ModifyIndication { d: Simplex, s: 1 }],
         );
     }
     // The mode changes: off.
@@ -451,17 +461,109 @@ fn d_info() {
         active(Plane::Receive),
         info(true, Some(0), Duplex),
         duplex(unlimited(active(Plane::Off))),
-        &[stop(T310), OFF, ModifyIndication { d: Duplex }],
+        &[stop(T310), OFF, ModifyIndication { d: Duplex, s: 1 }],
     );
     row(
         duplex(active(Plane::Receive)),
         info(false, Some(0), Simplex),
         active(Plane::Off),
-        &[OFF, ModifyIndication { d: Simplex }],
+        &[OFF, ModifyIndication { d: Simplex, s: 1 }],
     );
     no_row(broken(), info(false, None, Simplex));
     no_row(restoring(), info(false, None, Simplex));
     no_row(wait(Plane::Off), info(false, None, Simplex));
+}
+
+/// The slots: SETUP request, D-CONNECT and D-INFO store those that they carry and else keep the held
+/// number; U-SETUP carries them when the request did, MODIFY indication always.
+#[test]
+fn slots() {
+    let held = |call: Call, slots| Call { slots, ..call };
+    for s in 1..=4 {
+        row(
+            Call::FRESH,
+            SetupRequest { a: A, d: Simplex, q: false, s: Some(s) },
+            held(mo(), s),
+            &[USetup { a: A, d: Simplex, q: false, s: Some(s) }, start(T303)],
+        );
+        // The held number of a fresh record is 1, and a U-SETUP without slots does not say so.
+        for held_before in 1..=4 {
+            let connect = |s| DConnect { i: I, g: NotGranted, d: Simplex, o: 3, s };
+            let confirm =
+                [stop(T303), Start { n: T310, o: 3 }, OFF, SetupConfirm { i: I, g: NotGranted }];
+            let (set_up, connected) = (held(mo(), held_before), active(Plane::Off));
+            row(set_up, connect(Some(s)), held(connected, s), &confirm);
+            row(set_up, connect(None), held(connected, held_before), &confirm);
+
+            let info = |d, s| DInfo { i: I, r: false, o: None, d, s };
+            for &plane in &[Plane::Receive, Plane::Off] {
+                let call = held(active(plane), held_before);
+                let again = Configure { p: plane };
+                // The slots alone, changed or not: the present plane again.
+                row(
+                    call,
+                    info(Simplex, Some(s)),
+                    held(call, s),
+                    &[again, ModifyIndication { d: Simplex, s }],
+                );
+                row(
+                    call,
+                    info(Simplex, None),
+                    call,
+                    &[again, ModifyIndication { d: Simplex, s: held_before }],
+                );
+                // With the mode: off.
+                row(
+                    call,
+                    info(Duplex, Some(s)),
+                    held(duplex(active(Plane::Off)), s),
+                    &[OFF, ModifyIndication { d: Duplex, s }],
+                );
+                row(
+                    call,
+                    info(Duplex, None),
+                    held(duplex(active(Plane::Off)), held_before),
+                    &[OFF, ModifyIndication { d: Duplex, s: held_before }],
+                );
+            }
+            no_row(held(broken(), held_before), info(Simplex, Some(s)));
+            no_row(held(restoring(), held_before), info(Simplex, Some(s)));
+            no_row(held(wait(Plane::Off), held_before), info(Simplex, Some(s)));
+            no_row(held(disconnect(), held_before), info(Simplex, Some(s)));
+        }
+        // No other row changes them until the end, which leaves the fresh record.
+        let held = |call| held(call, s);
+        row(held(active(Plane::Receive)), Break, held(broken()), &[OFF]);
+        row(
+            held(broken()),
+            Resume,
+            held(restoring()),
+            &[UCallRestore { i: I, a: A, q: false }, start(T306)],
+        );
+        row(
+            held(restoring()),
+            DCallRestore { i: I, g: GrantedToAnother, r: false, o: None },
+            held(active(Plane::Receive)),
+            &[stop(T306), Configure { p: Plane::Receive }, x(3)],
+        );
+        row(held(active(Plane::Off)), DTxWait { i: I }, held(wait(Plane::Off)), &[OFF, x(6)]);
+        let release = [stop(T310), UDisconnect { i: I, c: Cause::User }, start(T308), OFF];
+        row(held(active(Plane::Off)), ReleaseRequest, held(disconnect()), &release);
+        row(held(disconnect()), Expiry { n: T308 }, Call::FRESH, &[OFF, ReleaseConfirm]);
+        row(
+            Call { slots: s, ..mo() },
+            ReportFailed,
+            Call::FRESH,
+            &[stop(T303), ReleaseIndication { c: Cause::TransferFailed }],
+        );
+    }
+    // An incoming call has 1.
+    row(
+        Call::FRESH,
+        DSetup { i: I, a: A, d: Simplex },
+        Call { slots: 1, ..mt() },
+        &[SetupIndication { i: I, a: A, d: Simplex }],
+    );
 }
 
 /// No change of service over a speaker: D-INFO is refused with 8 in planes 1 and 3, whatever it
@@ -470,10 +572,10 @@ fn d_info() {
 fn d_info_over_own_transmission() {
     for call in [active(Plane::Transmit), duplex(active(Plane::TransmitAndReceive))] {
         for (r, o) in [(false, None), (true, None), (true, Some(9)), (true, Some(0))] {
-            for d in [Simplex, Duplex] {
-                let info = DInfo { i: I, r, o, d };
+            for (d, s) in [(Simplex, None), (Duplex, None), (Simplex, Some(3)), (Duplex, Some(1))] {
+                let info = DInfo { i: I, r, o, d, s };
                 refused(8, call, info);
-                refused(5, call, DInfo { i: I + 1, r, o, d });
+                refused(5, call, DInfo { i: I + 1, r, o, d, s });
                 // With no room at all 7 applies too, and 8 is given.
                 let mut record = call.pack();
                 let word = library::step(&mut record, Bytes::of_event(info).as_slice(), &mut []);
@@ -483,7 +585,11 @@ fn d_info_over_own_transmission() {
         }
     }
     // Sound and out of reach: plane 3 in a simplex call.
-    refused(8, active(Plane::TransmitAndReceive), DInfo { i: I, r: false, o: None, d: Simplex });
+    refused(
+        8,
+        active(Plane::TransmitAndReceive),
+        DInfo { i: I, r: false, o: None, d: Simplex, s: None },
+    );
 }
 
 #[test]
@@ -547,7 +653,7 @@ fn call_active_path_up_by_the_network() {
     for event in [
         DCallProceeding { i: I },
         DAlert { i: I },
-        DConnect { i: I, g: Granted, d: Simplex, o: 0 },
+        DConnect { i: I, g: Granted, d: Simplex, o: 0, s: None },
         DTxContinue { i: I, k: true },
         DCallRestore { i: I, g: Granted, r: true, o: None },
         DSetup { i: I, a: A, d: Simplex },
@@ -772,7 +878,7 @@ fn several_timers_running_at_once() {
     );
     row(
         with(mo(), &[T301, T302, T303, T308, T310]),
-        DConnect { i: I, g: GrantedToAnother, d: Simplex, o: 3 },
+        DConnect { i: I, g: GrantedToAnother, d: Simplex, o: 3, s: None },
         with(active(Plane::Receive), &[T301, T308, T310]),
         &[
             stop(T302),

@@ -2,7 +2,7 @@
 
 use callcontrol_tests::library::BRIDGED;
 use callcontrol_tests::programs::stack_used;
-use callcontrol_tests::tape::tape;
+use callcontrol_tests::tape::{tape, tape_with_slots};
 
 #[test]
 fn a_step_uses_less_than_a_kibibyte_of_stack() {
@@ -10,8 +10,10 @@ fn a_step_uses_less_than_a_kibibyte_of_stack() {
         println!("not measured: this is not the library that is shipped, which is x86-64 code");
         return;
     }
-    let bytes = stack_used("tests/bridge/stack.c", &tape().with_lengths());
-    println!("{bytes} bytes of stack");
-    // A step that used next to nothing would not have been played.
-    assert!((64..1024).contains(&bytes), "{bytes} bytes of stack");
+    for tape in [tape(), tape_with_slots()] {
+        let bytes = stack_used("tests/bridge/stack.c", &tape.with_lengths());
+        println!("{bytes} bytes of stack");
+        // A step that used next to nothing would not have been played.
+        assert!((64..1024).contains(&bytes), "{bytes} bytes of stack");
+    }
 }

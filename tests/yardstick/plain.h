@@ -17,8 +17,8 @@
 #define PLAIN(name) plain_##name
 #endif
 
-enum { RECORD_SIZE = 21, PLACES = 8, TABLE_SIZE = PLACES * RECORD_SIZE, MARK_SIZE = 5 };
-enum { ID_MAX = 16383, ADDRESS_MAX = 16777215, CODE_MAX = 15, CODE_ABSENT = 16 };
+enum { RECORD_SIZE = 22, PLACES = 8, TABLE_SIZE = PLACES * RECORD_SIZE, MARK_SIZE = 5 };
+enum { ID_MAX = 16383, ADDRESS_MAX = 16777215, CODE_MAX = 15, CODE_ABSENT = 16, SLOTS_MAX = 4 };
 enum { IDLE, MO, MT, ACTIVE, WAIT, DISCONNECT };
 enum { UP, BROKEN, RESTORING };
 enum { T301 = 1, T302 = 2, T303 = 4, T306 = 8, T308 = 16, T310 = 32, T311 = 64 };
@@ -27,7 +27,7 @@ enum { OFF = 4 };
 struct call {
     uint32_t address;
     uint16_t id;
-    uint8_t state, mode, asked, sent, path, plane, kept, code;
+    uint8_t state, mode, asked, sent, path, plane, kept, code, slots;
     uint8_t timers; /* a bit for each that runs */
 };
 
@@ -35,6 +35,7 @@ struct event {
     uint32_t a;
     uint16_t kind, i;
     uint8_t g, d, o, r, k; /* k also for q */
+    uint8_t s;             /* 0 where the body carries none */
     uint8_t n;             /* a bit, as in timers */
 };
 
@@ -52,7 +53,7 @@ static inline void put32(uint8_t *b, uint32_t v) { memcpy(b, &v, 4); }
 #define REFUSED(answer, place) ((uint32_t)(answer) << 24 | (uint32_t)(place) << 16)
 #define HEAD(size, kind) ((uint32_t)(4 + (size)) | (uint32_t)(kind) << 16)
 
-static const struct call FRESH = {.plane = OFF, .kept = OFF};
+static const struct call FRESH = {.plane = OFF, .kept = OFF, .slots = 1};
 
 /* ---- the record */
 
@@ -63,7 +64,8 @@ static inline int unpack(struct call *c, const uint8_t *b)
     memcpy(&t, b + 13, 8); /* the T310 code and the seven timers */
     uint64_t flags = t >> 8;
     if (b[0] > DISCONNECT || b[7] > 1 || (b[8] | b[9]) > 1 || b[10] > RESTORING ||
-        (uint8_t)(b[11] - 1) > 3 || (uint8_t)(b[12] - 1) > 3 || (flags & 0xFEFEFEFEFEFEFEu))
+        (uint8_t)(b[11] - 1) > 3 || (uint8_t)(b[12] - 1) > 3 ||
+        (uint8_t)(b[21] - 1) >= SLOTS_MAX || (flags & 0xFEFEFEFEFEFEFEu))
         return 0;
     c->state = b[0];
     c->id = u16_at(b + 1);
@@ -75,11 +77,12 @@ static inline int unpack(struct call *c, const uint8_t *b)
     c->plane = b[11];
     c->kept = b[12];
     c->code = b[13];
+    c->slots = b[21];
     c->timers = (uint8_t)(flags * 0x0102040810204080u >> 56); /* one bit of each byte */
     /* sound */
     if (c->state == IDLE)
         return !(c->id | c->address | c->mode | c->asked | c->sent | c->path | c->code | c->timers) &&
-               c->plane == OFF && c->kept == OFF;
+               c->plane == OFF && c->kept == OFF && c->slots == 1;
     int up = c->state == ACTIVE && c->path == UP;
     return c->id <= ID_MAX && c->address <= ADDRESS_MAX && c->code <= CODE_MAX &&
            !!(c->timers & T311) == (c->plane == 1) && !!(c->timers & T306) == (c->path == RESTORING) &&
@@ -101,6 +104,7 @@ static inline void pack(const struct call *c, uint8_t *b)
     b[13] = c->code;
     for (int k = 0; k < 7; k++)
         b[14 + k] = c->timers >> k & 1;
+    b[21] = c->slots;
 }
 
 /* ---- reading */
@@ -120,6 +124,11 @@ static inline uint8_t timer_bit(uint16_t n)
 }
 
 #define SIZE(size) if (len != 4 + (size)) return REFUSED(4, 2)
+/* A body that may carry the slots behind its other fields, and the slots. */
+#define SIZE_OR_SLOTS(size) if (len != 4 + (size) && len != 5 + (size)) return REFUSED(4, 2)
+#define ASK_SLOTS(e, size) \
+    e->s = len == 5 + (size) ? b[4 + (size)] : 0; \
+    ASK(len == 4 + (size) || (uint8_t)(e->s - 1) < SLOTS_MAX, 4 + (size))
 #define ASK(holds, at) if (!(holds)) return REFUSED(4, at)
 #define IS_ID(v) ((uint16_t)((v) - 1) < ID_MAX)
 
@@ -129,12 +138,13 @@ static inline uint32_t read_event(struct event *e, const uint8_t *b, size_t len)
         return REFUSED(2, 0);
     e->kind = u16_at(b + 2);
     switch (e->kind) {
-    case 0x0101: /* SETUP request a d q */
-        SIZE(6);
+    case 0x0101: /* SETUP request a d q, or with s */
+        SIZE_OR_SLOTS(6);
         e->a = u32_at(b + 4), e->d = b[8], e->k = b[9];
         ASK(e->a - 1 < ADDRESS_MAX, 4);
         ASK(e->d <= 1, 8);
         ASK(e->k <= 1, 9);
+        ASK_SLOTS(e, 6);
         return 0;
     case 0x0102: case 0x0103: case 0x0301: case 0x0302: case 0x0303: case 0x0304:
         SIZE(0);
@@ -154,13 +164,14 @@ static inline uint32_t read_event(struct event *e, const uint8_t *b, size_t len)
         e->i = u16_at(b + 4);
         ASK(IS_ID(e->i), 4);
         return 0;
-    case 0x0203: /* D-CONNECT i g d o */
-        SIZE(5);
+    case 0x0203: /* D-CONNECT i g d o, or with s */
+        SIZE_OR_SLOTS(5);
         e->i = u16_at(b + 4), e->g = b[6], e->d = b[7], e->o = b[8];
         ASK(IS_ID(e->i), 4);
         ASK(e->g <= 3, 6);
         ASK(e->d <= 1, 7);
         ASK(e->o <= CODE_MAX, 8);
+        ASK_SLOTS(e, 5);
         return 0;
     case 0x0204: /* D-CONNECT ACKNOWLEDGE i g o */
         SIZE(4);
@@ -176,13 +187,14 @@ static inline uint32_t read_event(struct event *e, const uint8_t *b, size_t len)
         ASK(e->a <= ADDRESS_MAX, 6);
         ASK(e->d <= 1, 10);
         return 0;
-    case 0x0206: /* D-INFO i r o d */
-        SIZE(5);
+    case 0x0206: /* D-INFO i r o d, or with s */
+        SIZE_OR_SLOTS(5);
         e->i = u16_at(b + 4), e->r = b[6], e->o = b[7], e->d = b[8];
         ASK(IS_ID(e->i), 4);
         ASK(e->r <= 1, 6);
         ASK(e->o <= CODE_ABSENT, 7);
         ASK(e->d <= 1, 8);
+        ASK_SLOTS(e, 5);
         return 0;
     case 0x0207: case 0x0209: /* i g */
         SIZE(3);
@@ -231,6 +243,12 @@ static inline void start(struct call *c, struct orders *o, uint8_t timer)
     c->timers |= timer;
     o->stops &= (uint8_t)~timer;
     o->starts |= timer;
+}
+
+static inline void store_slots(struct call *c, uint8_t s)
+{
+    if (s)
+        c->slots = s;
 }
 
 static inline void start_t310(struct call *c, struct orders *o, uint8_t code)
@@ -306,7 +324,9 @@ static inline uint32_t row(struct call *c, const struct event *e, struct orders 
         if (s != IDLE)
             return 6;
         c->state = MO, c->address = e->a, c->mode = e->d, c->asked = e->k;
-        pdu(o, HEAD(6, 0x0501), e->a | (uint64_t)e->d << 32 | (uint64_t)e->k << 40);
+        store_slots(c, e->s);
+        pdu(o, e->s ? HEAD(7, 0x0501) : HEAD(6, 0x0501),
+            e->a | (uint64_t)e->d << 32 | (uint64_t)e->k << 40 | (uint64_t)e->s << 48);
         start(c, o, T303);
         return 0;
     case 0x0102:
@@ -364,6 +384,7 @@ static inline uint32_t row(struct call *c, const struct event *e, struct orders 
         if (s != MO)
             return 6;
         c->id = e->i, c->mode = e->d, c->sent = 1, c->state = ACTIVE;
+        store_slots(c, e->s);
         stop(c, o, T302 | T303);
         start_t310(c, o, e->o);
         grant_or_off(c, o, e->g);
@@ -396,7 +417,8 @@ static inline uint32_t row(struct call *c, const struct event *e, struct orders 
             configure(c, o, OFF);
         } else
             o->plane = c->plane;
-        user(o, HEAD(1, 0x0709), e->d);
+        store_slots(c, e->s);
+        user(o, HEAD(2, 0x0709), e->d | (uint64_t)c->slots << 8);
         return 0;
     case 0x0207:
         if (s != ACTIVE || c->path != UP)

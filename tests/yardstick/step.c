@@ -55,11 +55,12 @@ static uint32_t read_message(const uint8_t *b, size_t len)
     if (len < 4 || u16_at(b) != len)
         return REFUSED(2, 0);
     switch (u16_at(b + 2)) {
-    case 0x0501: /* U-SETUP a d q */
-        SIZE(6);
+    case 0x0501: /* U-SETUP a d q, or with s */
+        SIZE_OR_SLOTS(6);
         ASK(u32_at(b + 4) - 1 < ADDRESS_MAX, 4);
         ASK(b[8] <= 1, 8);
         ASK(b[9] <= 1, 9);
+        ASK(len == 10 || (uint8_t)(b[10] - 1) < SLOTS_MAX, 10);
         return 0;
     case 0x0502: case 0x0506: case 0x0507: /* i */
         SIZE(2);
@@ -106,6 +107,10 @@ static uint32_t read_message(const uint8_t *b, size_t len)
         SIZE(1);
         ASK(b[4] < PLACES, 4);
         return 0;
+    case 0x0606: /* CHANNEL ANSWER u v */
+        SIZE(3);
+        ASK(b[6] <= 2, 6);
+        return 0;
     case 0x0702: /* SETUP confirm i g */
         SIZE(3);
         ASK(IS_ID(u16_at(b + 4)), 4);
@@ -119,9 +124,10 @@ static uint32_t read_message(const uint8_t *b, size_t len)
         SIZE(1);
         ASK(b[4] <= 8, 4);
         return 0;
-    case 0x0709: /* MODIFY indication d */
-        SIZE(1);
+    case 0x0709: /* MODIFY indication d s */
+        SIZE(2);
         ASK(b[4] <= 1, 4);
+        ASK((uint8_t)(b[5] - 1) < SLOTS_MAX, 5);
         return 0;
     }
     return REFUSED(3, 0);

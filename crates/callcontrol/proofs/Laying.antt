@@ -1,5 +1,5 @@
 -- Messages laid one after the other are their bytes stored one after the other, and how many bytes they are.
-use Prim.Native.Nat.{ℕ, _+_, _*_, _≤_}
+use Prim.Native.Nat.{ℕ, zero, suc, _+_, _*_, _≤_}
 use mathlib.Core.Path.{_≡_, refl, sym, _∙_, ap}
 use mathlib.Core.Bool.{Bool, true, false, cond, not}
 use mathlib.Core.List.{List, [], _∷_, _++_}
@@ -84,7 +84,8 @@ size-byNumber order flags n e =
 -- no message takes more than 11 bytes
 pub size-bound : (m : Message) → messageSize m ≤ 11
 unfolding messageSize flatSize
-size-bound (Message.USetup a d q) = lit≤ tt
+size-bound (Message.USetup a d q zero) = lit≤ tt
+size-bound (Message.USetup a d q (suc s)) = lit≤ tt
 size-bound (Message.UConnect i) = lit≤ tt
 size-bound (Message.UDisconnect i c) = lit≤ tt
 size-bound (Message.URelease i) = lit≤ tt
@@ -97,6 +98,7 @@ size-bound (Message.Start n o) = lit≤ tt
 size-bound (Message.Configure p) = lit≤ tt
 size-bound Message.Cancel = lit≤ tt
 size-bound (Message.Place at) = lit≤ tt
+size-bound (Message.ChannelAnswer n v) = lit≤ tt
 size-bound (Message.SetupIndication i a d) = lit≤ tt
 size-bound (Message.SetupConfirm i g) = lit≤ tt
 size-bound Message.Proceed = lit≤ tt
@@ -105,7 +107,7 @@ size-bound (Message.Complete g) = lit≤ tt
 size-bound (Message.ReleaseIndication c) = lit≤ tt
 size-bound Message.ReleaseConfirm = lit≤ tt
 size-bound (Message.TxIndication x) = lit≤ tt
-size-bound (Message.ModifyIndication d) = lit≤ tt
+size-bound (Message.ModifyIndication d s) = lit≤ tt
 
 -- the whole of an order: what its parts take
 pub size-messages : (d : Draft)

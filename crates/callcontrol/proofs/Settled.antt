@@ -14,13 +14,13 @@ use Rattle.callcontrol.specs.declared.call.State.{State}
 use Rattle.callcontrol.specs.declared.call.Path.{Path}
 use Rattle.callcontrol.specs.Draft.{Draft}
 use Rattle.callcontrol.specs.Call.{runs, T301, T302, T303, T306, T308, T310, T311}
-use Rattle.callcontrol.specs.Draft.{_▷_, draft, noRow, go, onPath, storeId, storeMode, storeAsked, storeSent, storeCode, keep, stop, start, expired, release, samePlane, plane, off, say, tell, grant, grantOrOff, restart, cancel}
+use Rattle.callcontrol.specs.Draft.{_▷_, draft, noRow, go, onPath, storeId, storeMode, storeAsked, storeSent, storeCode, storeSlots, keep, stop, start, expired, release, samePlane, plane, off, say, tell, tellModified, grant, grantOrOff, restart, cancel}
 use Rattle.callcontrol.specs.Rows.{releasing, released, disconnected, idle, moCallSetup, mtCallSetup, informed, cut, activeUp, asks, activeBroken, activeRestoring, wait, confirmed}
-use Rattle.callcontrol.specs.Settle.{STAY, MO-CALL-SETUP, MT-CALL-SETUP, CALL-ACTIVE, WAIT, CALL-DISCONNECT, OVER, UP, BROKEN, RESTORING, SENT, PLANE-1, PLANE-2, PLANE-3, OFF, SAME-PLANE, KEPT-PLANE, U-SETUP, U-CONNECT, U-RELEASE, U-INFO, U-TX-DEMAND, U-TX-CEASED, U-CALL-RESTORE, SETUP-INDICATION, SETUP-CONFIRM, PROCEED, ALERT, COMPLETE, RELEASE-INDICATION, RELEASE-CONFIRM, TX-INDICATION, MODIFY-INDICATION, CANCEL, STOP-301, STOP-302, STOP-303, STOP-306, START-301, START-302, START-303, START-306, START-310, EXPIRED-301, EXPIRED-302, EXPIRED-303, EXPIRED-306, EXPIRED-308, EXPIRED-310, EXPIRED-311, ENDED, CONFIRMED, RELEASE, has, timing, expireTimer, stopTimer, startTimer, stopIf, startIf, limitTimer, limitIf, expiredBy, orderedBy, planeTimer, timingBy, configureBy, planeBy, stateBy, keptBy, pathBy, sentBy, nextBy, pduBy, userBy, settled, draftOf, noneRow, rowOf, rowAsking, rowNaming, planeGranted, planeOrOff, askedAfter, restarting, codeAfter}
+use Rattle.callcontrol.specs.Settle.{STAY, MO-CALL-SETUP, MT-CALL-SETUP, CALL-ACTIVE, WAIT, CALL-DISCONNECT, OVER, UP, BROKEN, RESTORING, SENT, PLANE-1, PLANE-2, PLANE-3, OFF, SAME-PLANE, KEPT-PLANE, U-SETUP, U-CONNECT, U-RELEASE, U-INFO, U-TX-DEMAND, U-TX-CEASED, U-CALL-RESTORE, SETUP-INDICATION, SETUP-CONFIRM, PROCEED, ALERT, COMPLETE, RELEASE-INDICATION, RELEASE-CONFIRM, TX-INDICATION, MODIFY-INDICATION, CANCEL, STOP-301, STOP-302, STOP-303, STOP-306, START-301, START-302, START-303, START-306, START-310, EXPIRED-301, EXPIRED-302, EXPIRED-303, EXPIRED-306, EXPIRED-308, EXPIRED-310, EXPIRED-311, ENDED, CONFIRMED, RELEASE, has, timing, expireTimer, stopTimer, startTimer, stopIf, startIf, limitTimer, limitIf, expiredBy, orderedBy, planeTimer, timingBy, configureBy, planeBy, stateBy, keptBy, pathBy, sentBy, nextBy, pduBy, userBy, settled, draftOf, noneRow, rowOf, rowAsking, rowNaming, planeGranted, planeOrOff, askedAfter, restarting, codeAfter, slotsAfter}
 use Rattle.callcontrol.proofs.Verbs.{verbs}
 
 unfoldable pub numbers : Unit {0}
-unfolding has timing expireTimer stopTimer startTimer stopIf startIf limitTimer limitIf expiredBy orderedBy planeTimer timingBy configureBy planeBy stateBy keptBy pathBy sentBy nextBy pduBy userBy settled draftOf
+unfolding has timing expireTimer stopTimer startTimer stopIf startIf limitTimer limitIf expiredBy orderedBy planeTimer timingBy configureBy planeBy stateBy keptBy pathBy sentBy nextBy pduBy userBy settled draftOf slotsAfter
 numbers = tt
 
 pub none-is : (c : Call) → draftOf c noneRow ≡ noRow c
@@ -61,11 +61,11 @@ timed-out-310-is c = refl
 
 -- IDLE
 
-pub setup-request-is : (c : Call) (a d q : ℕ) → draftOf c (record { orders = MO-CALL-SETUP + U-SETUP + START-303; id = c .id; address = a; mode = d; asked = q; code = c .code; value = 0 }) ≡ idle c (Event.SetupRequest a d q)
+pub setup-request-is : (c : Call) (a d q s : ℕ) → draftOf c (record { orders = MO-CALL-SETUP + U-SETUP + START-303; id = c .id; address = a; mode = d; asked = q; code = c .code; slots = slotsAfter s (c .slots); value = s }) ≡ idle c (Event.SetupRequest a d q s)
 unfolding verbs numbers idle
-setup-request-is c a d q = refl
+setup-request-is c a d q s = refl
 
-pub d-setup-is : (c : Call) (i a d : ℕ) → draftOf c (record { orders = MT-CALL-SETUP + SETUP-INDICATION; id = i; address = a; mode = d; asked = c .asked; code = c .code; value = 0 }) ≡ idle c (Event.DSetup i a d)
+pub d-setup-is : (c : Call) (i a d : ℕ) → draftOf c (record { orders = MT-CALL-SETUP + SETUP-INDICATION; id = i; address = a; mode = d; asked = c .asked; code = c .code; slots = c .slots; value = 0 }) ≡ idle c (Event.DSetup i a d)
 unfolding verbs numbers idle
 d-setup-is c i a d = refl
 
@@ -190,9 +190,9 @@ grant-or-off-is (suc (suc (suc (suc n)))) d duplex e =
     rw (above n 0 (omega arith), above n 1 (omega arith), above n 2 (omega arith), above n 3 (omega arith)) refl
 
 -- the drafts that G is asked of
-abbrev connecting : Call → ℕ → ℕ → ℕ → Draft
-connecting c i d o =
-    draft c ▷ storeId i ▷ storeMode d ▷ storeCode o ▷ storeSent 1 ▷ go State.CallActive ▷ stop T302 ▷ stop T303 ▷ start T310
+abbrev connecting : Call → ℕ → ℕ → ℕ → ℕ → Draft
+connecting c i d o s =
+    draft c ▷ storeId i ▷ storeMode d ▷ storeCode o ▷ storeSlots s ▷ storeSent 1 ▷ go State.CallActive ▷ stop T302 ▷ stop T303 ▷ start T310
 
 abbrev acknowledging : Call → ℕ → Draft
 acknowledging c o = draft c ▷ storeCode o ▷ go State.CallActive ▷ stop T301 ▷ start T310
@@ -200,9 +200,9 @@ acknowledging c o = draft c ▷ storeCode o ▷ go State.CallActive ▷ stop T30
 abbrev restored : Call → Draft
 restored c = draft c ▷ stop T306 ▷ onPath Path.Up
 
-connecting-mode : (c : Call) (i d o : ℕ) → eqb (connecting c i d o .call .mode) 1 ≡ eqb d 1
+connecting-mode : (c : Call) (i d o s : ℕ) → eqb (connecting c i d o s .call .mode) 1 ≡ eqb d 1
 unfolding verbs
-connecting-mode c i d o = refl
+connecting-mode c i d o s = refl
 
 acknowledging-mode : (c : Call) (o : ℕ) → eqb (acknowledging c o .call .mode) 1 ≡ eqb (c .mode) 1
 unfolding verbs
@@ -216,21 +216,21 @@ draft-mode : (c : Call) → eqb (draft c .call .mode) 1 ≡ eqb (c .mode) 1
 unfolding verbs
 draft-mode c = refl
 
-connected-by : (c : Call) (i g d o : ℕ) (w : Granted) → draftOf c (record { orders = CALL-ACTIVE + SENT + STOP-302 + STOP-303 + START-310 + SETUP-CONFIRM + planeOfOr w; id = i; address = c .address; mode = d; asked = askedOf w (c .asked); code = o; value = g }) ≡ givenOr w (connecting c i d o) ▷ tell (Message.SetupConfirm i g)
+connected-by : (c : Call) (i g d o s : ℕ) (w : Granted) → draftOf c (record { orders = CALL-ACTIVE + SENT + STOP-302 + STOP-303 + START-310 + SETUP-CONFIRM + planeOfOr w; id = i; address = c .address; mode = d; asked = askedOf w (c .asked); code = o; slots = slotsAfter s (c .slots); value = g }) ≡ givenOr w (connecting c i d o s) ▷ tell (Message.SetupConfirm i g)
 unfolding verbs numbers
-connected-by c i g d o both = refl
-connected-by c i g d o one = refl
-connected-by c i g d o refused = refl
-connected-by c i g d o queued = refl
-connected-by c i g d o another = refl
-connected-by c i g d o neither = refl
+connected-by c i g d o s both = refl
+connected-by c i g d o s one = refl
+connected-by c i g d o s refused = refl
+connected-by c i g d o s queued = refl
+connected-by c i g d o s another = refl
+connected-by c i g d o s neither = refl
 
-pub connected-is : (c : Call) (i g d o : ℕ) → draftOf c (record { orders = CALL-ACTIVE + SENT + STOP-302 + STOP-303 + START-310 + SETUP-CONFIRM + planeOrOff g d; id = i; address = c .address; mode = d; asked = askedAfter g (c .asked); code = o; value = g }) ≡ moCallSetup c (Event.DConnect i g d o)
+pub connected-is : (c : Call) (i g d o s : ℕ) → draftOf c (record { orders = CALL-ACTIVE + SENT + STOP-302 + STOP-303 + START-310 + SETUP-CONFIRM + planeOrOff g d; id = i; address = c .address; mode = d; asked = askedAfter g (c .asked); code = o; slots = slotsAfter s (c .slots); value = g }) ≡ moCallSetup c (Event.DConnect i g d o s)
 unfolding moCallSetup
-connected-is c i g d o =
+connected-is c i g d o s =
     rw (plane-or-off-is g d (eqb d 1) refl, asked-is g (c .asked) (eqb d 1))
-    (connected-by c i g d o (granting g (eqb d 1))
-    ∙ ap (tell (Message.SetupConfirm i g)) (grant-or-off-is g (connecting c i d o) (eqb d 1) (connecting-mode c i d o)))
+    (connected-by c i g d o s (granting g (eqb d 1))
+    ∙ ap (tell (Message.SetupConfirm i g)) (grant-or-off-is g (connecting c i d o s) (eqb d 1) (connecting-mode c i d o s)))
 
 -- REPORTs, in MO-CALL-SETUP and CALL-DISCONNECT
 
@@ -248,7 +248,7 @@ pub responded-is : (c : Call) → runs c T301 ≡ false → draftOf c (rowOf c (
 unfolding verbs numbers mtCallSetup
 responded-is c e = rw e refl
 
-acknowledged-by : (c : Call) (g o : ℕ) (w : Granted) → draftOf c (record { orders = CALL-ACTIVE + STOP-301 + START-310 + COMPLETE + planeOfOr w; id = c .id; address = c .address; mode = c .mode; asked = askedOf w (c .asked); code = o; value = g }) ≡ givenOr w (acknowledging c o) ▷ tell (Message.Complete g)
+acknowledged-by : (c : Call) (g o : ℕ) (w : Granted) → draftOf c (record { orders = CALL-ACTIVE + STOP-301 + START-310 + COMPLETE + planeOfOr w; id = c .id; address = c .address; mode = c .mode; asked = askedOf w (c .asked); code = o; slots = c .slots; value = g }) ≡ givenOr w (acknowledging c o) ▷ tell (Message.Complete g)
 unfolding verbs numbers
 acknowledged-by c g o both = refl
 acknowledged-by c g o one = refl
@@ -257,7 +257,7 @@ acknowledged-by c g o queued = refl
 acknowledged-by c g o another = refl
 acknowledged-by c g o neither = refl
 
-pub acknowledged-is : (c : Call) (g o : ℕ) → draftOf c (record { orders = CALL-ACTIVE + STOP-301 + START-310 + COMPLETE + planeOrOff g (c .mode); id = c .id; address = c .address; mode = c .mode; asked = askedAfter g (c .asked); code = o; value = g }) ≡ acknowledging c o ▷ grantOrOff g ▷ tell (Message.Complete g)
+pub acknowledged-is : (c : Call) (g o : ℕ) → draftOf c (record { orders = CALL-ACTIVE + STOP-301 + START-310 + COMPLETE + planeOrOff g (c .mode); id = c .id; address = c .address; mode = c .mode; asked = askedAfter g (c .asked); code = o; slots = c .slots; value = g }) ≡ acknowledging c o ▷ grantOrOff g ▷ tell (Message.Complete g)
 acknowledged-is c g o =
     rw (plane-or-off-is g (c .mode) (eqb (c .mode) 1) refl, asked-is g (c .asked) (eqb (c .mode) 1))
     (acknowledged-by c g o (granting g (eqb (c .mode) 1))
@@ -323,33 +323,33 @@ restart-is r o d true true e f = rw (e, f) refl
 restart-is r o d true false e f = rw (e, f) refl
 restart-is r o d false absent e f = rw e refl
 
-informed-same : (c : Call) (o : ℕ) (w : Restarted) → draftOf c (record { orders = STAY + SAME-PLANE + MODIFY-INDICATION + startOf w; id = c .id; address = c .address; mode = c .mode; asked = c .asked; code = codeOf w o (c .code); value = c .mode }) ≡ restartedFor w o (draft c) ▷ samePlane ▷ tell (Message.ModifyIndication (c .mode))
+informed-same : (c : Call) (o s : ℕ) (w : Restarted) → draftOf c (record { orders = STAY + SAME-PLANE + MODIFY-INDICATION + startOf w; id = c .id; address = c .address; mode = c .mode; asked = c .asked; code = codeOf w o (c .code); slots = slotsAfter s (c .slots); value = 0 }) ≡ restartedFor w o (draft c) ▷ storeSlots s ▷ samePlane ▷ tellModified (c .mode)
 unfolding verbs numbers
-informed-same c o anew = refl
-informed-same c o held = refl
-informed-same c o left = refl
+informed-same c o s anew = refl
+informed-same c o s held = refl
+informed-same c o s left = refl
 
-informed-other : (c : Call) (o d : ℕ) (w : Restarted) → draftOf c (record { orders = STAY + OFF + MODIFY-INDICATION + startOf w; id = c .id; address = c .address; mode = d; asked = c .asked; code = codeOf w o (c .code); value = d }) ≡ restartedFor w o (draft c) ▷ storeMode d ▷ off ▷ tell (Message.ModifyIndication d)
+informed-other : (c : Call) (o d s : ℕ) (w : Restarted) → draftOf c (record { orders = STAY + OFF + MODIFY-INDICATION + startOf w; id = c .id; address = c .address; mode = d; asked = c .asked; code = codeOf w o (c .code); slots = slotsAfter s (c .slots); value = 0 }) ≡ restartedFor w o (draft c) ▷ storeMode d ▷ storeSlots s ▷ off ▷ tellModified d
 unfolding verbs numbers
-informed-other c o d anew = refl
-informed-other c o d held = refl
-informed-other c o d left = refl
+informed-other c o d s anew = refl
+informed-other c o d s held = refl
+informed-other c o d s left = refl
 
-pub informed-same-is : (c : Call) (r o d : ℕ) → d ≡ c .mode → draftOf c (record { orders = STAY + SAME-PLANE + MODIFY-INDICATION + restarting r; id = c .id; address = c .address; mode = d; asked = c .asked; code = codeAfter r o (c .code); value = d }) ≡ informed r o d c
+pub informed-same-is : (c : Call) (r o d s : ℕ) → d ≡ c .mode → draftOf c (record { orders = STAY + SAME-PLANE + MODIFY-INDICATION + restarting r; id = c .id; address = c .address; mode = d; asked = c .asked; code = codeAfter r o (c .code); slots = slotsAfter s (c .slots); value = 0 }) ≡ informed r o d s c
 unfolding informed
-informed-same-is c r o d e =
+informed-same-is c r o d s e =
     rw (e, eq-eqb (c .mode) (c .mode) refl, restarting-is r o (eqb r 1) (eqb o 16) refl, code-is r o (c .code) (eqb r 1) (eqb o 16) refl refl)
-    (informed-same c o (restartedBy (eqb r 1) (eqb o 16))
-    ∙ ap (λ t. t ▷ samePlane ▷ tell (Message.ModifyIndication (c .mode))) (restart-is r o (draft c) (eqb r 1) (eqb o 16) refl refl))
+    (informed-same c o s (restartedBy (eqb r 1) (eqb o 16))
+    ∙ ap (λ t. t ▷ storeSlots s ▷ samePlane ▷ tellModified (c .mode)) (restart-is r o (draft c) (eqb r 1) (eqb o 16) refl refl))
 
-pub informed-other-is : (c : Call) (r o d : ℕ) → eqb d (c .mode) ≡ false → draftOf c (record { orders = STAY + OFF + MODIFY-INDICATION + restarting r; id = c .id; address = c .address; mode = d; asked = c .asked; code = codeAfter r o (c .code); value = d }) ≡ informed r o d c
+pub informed-other-is : (c : Call) (r o d s : ℕ) → eqb d (c .mode) ≡ false → draftOf c (record { orders = STAY + OFF + MODIFY-INDICATION + restarting r; id = c .id; address = c .address; mode = d; asked = c .asked; code = codeAfter r o (c .code); slots = slotsAfter s (c .slots); value = 0 }) ≡ informed r o d s c
 unfolding informed
-informed-other-is c r o d e =
+informed-other-is c r o d s e =
     rw (e, restarting-is r o (eqb r 1) (eqb o 16) refl, code-is r o (c .code) (eqb r 1) (eqb o 16) refl refl)
-    (informed-other c o d (restartedBy (eqb r 1) (eqb o 16))
-    ∙ ap (λ t. t ▷ storeMode d ▷ off ▷ tell (Message.ModifyIndication d)) (restart-is r o (draft c) (eqb r 1) (eqb o 16) refl refl))
+    (informed-other c o d s (restartedBy (eqb r 1) (eqb o 16))
+    ∙ ap (λ t. t ▷ storeMode d ▷ storeSlots s ▷ off ▷ tellModified d) (restart-is r o (draft c) (eqb r 1) (eqb o 16) refl refl))
 
-granted-by : (c : Call) (g : ℕ) (w : Granted) → draftOf c (record { orders = STAY + TX-INDICATION + planeOf w; id = c .id; address = c .address; mode = c .mode; asked = askedOf w (c .asked); code = c .code; value = g }) ≡ given w (draft c) ▷ tell (Message.TxIndication g)
+granted-by : (c : Call) (g : ℕ) (w : Granted) → draftOf c (record { orders = STAY + TX-INDICATION + planeOf w; id = c .id; address = c .address; mode = c .mode; asked = askedOf w (c .asked); code = c .code; slots = c .slots; value = g }) ≡ given w (draft c) ▷ tell (Message.TxIndication g)
 unfolding verbs numbers
 granted-by c g both = refl
 granted-by c g one = refl
@@ -358,7 +358,7 @@ granted-by c g queued = refl
 granted-by c g another = refl
 granted-by c g neither = refl
 
-pub granted-is : (c : Call) (g : ℕ) → draftOf c (record { orders = STAY + TX-INDICATION + planeGranted g (c .mode); id = c .id; address = c .address; mode = c .mode; asked = askedAfter g (c .asked); code = c .code; value = g }) ≡ draft c ▷ grant g ▷ tell (Message.TxIndication g)
+pub granted-is : (c : Call) (g : ℕ) → draftOf c (record { orders = STAY + TX-INDICATION + planeGranted g (c .mode); id = c .id; address = c .address; mode = c .mode; asked = askedAfter g (c .asked); code = c .code; slots = c .slots; value = g }) ≡ draft c ▷ grant g ▷ tell (Message.TxIndication g)
 granted-is c g =
     rw (plane-is g (c .mode) (eqb (c .mode) 1) refl, asked-is g (c .asked) (eqb (c .mode) 1))
     (granted-by c g (granting g (eqb (c .mode) 1))
@@ -420,7 +420,7 @@ apart (a ∷ b ∷ c ∷ d ∷ e ∷ []) x y = (refl, refl)
 apart (a ∷ b ∷ c ∷ d ∷ e ∷ f ∷ []) x y = (refl, refl)
 apart (a ∷ b ∷ c ∷ d ∷ e ∷ f ∷ g ∷ ts) x y = (refl, refl)
 
-restored-by : (c : Call) (g o : ℕ) (w : Granted) (v : Restarted) → draftOf c (record { orders = STAY + STOP-306 + UP + TX-INDICATION + planeOf w + startOf v; id = c .id; address = c .address; mode = c .mode; asked = askedOf w (c .asked); code = codeOf v o (c .code); value = g }) ≡ restartedFor v o (given w (restored c)) ▷ tell (Message.TxIndication g)
+restored-by : (c : Call) (g o : ℕ) (w : Granted) (v : Restarted) → draftOf c (record { orders = STAY + STOP-306 + UP + TX-INDICATION + planeOf w + startOf v; id = c .id; address = c .address; mode = c .mode; asked = askedOf w (c .asked); code = codeOf v o (c .code); slots = c .slots; value = g }) ≡ restartedFor v o (given w (restored c)) ▷ tell (Message.TxIndication g)
 unfolding verbs numbers
 restored-by c g o both anew = rw (swapped (set (c .timers) T306 false) false (not (eqb o 0)), apart (set (c .timers) T306 false) false (not (eqb o 0)) .0, apart (set (c .timers) T306 false) false (not (eqb o 0)) .1) refl
 restored-by c g o both held = rw (swapped (set (c .timers) T306 false) false (not (eqb (c .code) 0)), apart (set (c .timers) T306 false) false (not (eqb (c .code) 0)) .0, apart (set (c .timers) T306 false) false (not (eqb (c .code) 0)) .1) refl
@@ -441,7 +441,7 @@ restored-by c g o neither anew = refl
 restored-by c g o neither held = refl
 restored-by c g o neither left = refl
 
-pub restored-is : (c : Call) (g r o : ℕ) → draftOf c (record { orders = STAY + STOP-306 + UP + TX-INDICATION + planeGranted g (c .mode) + restarting r; id = c .id; address = c .address; mode = c .mode; asked = askedAfter g (c .asked); code = codeAfter r o (c .code); value = g }) ≡ restored c ▷ grant g ▷ restart r o ▷ tell (Message.TxIndication g)
+pub restored-is : (c : Call) (g r o : ℕ) → draftOf c (record { orders = STAY + STOP-306 + UP + TX-INDICATION + planeGranted g (c .mode) + restarting r; id = c .id; address = c .address; mode = c .mode; asked = askedAfter g (c .asked); code = codeAfter r o (c .code); slots = c .slots; value = g }) ≡ restored c ▷ grant g ▷ restart r o ▷ tell (Message.TxIndication g)
 restored-is c g r o =
     rw (plane-is g (c .mode) (eqb (c .mode) 1) refl, asked-is g (c .asked) (eqb (c .mode) 1), restarting-is r o (eqb r 1) (eqb o 16) refl, code-is r o (c .code) (eqb r 1) (eqb o 16) refl refl)
     (restored-by c g o (granting g (eqb (c .mode) 1)) (restartedBy (eqb r 1) (eqb o 16))

@@ -51,6 +51,7 @@ freshCall =
       plane = 4;
       kept = 4;
       code = 0;
+      slots = 1;
       timers = none;
     }
 
@@ -99,12 +100,13 @@ unfoldable pub inRange : Call → Bool
 inRange call =
     leb (call .id) 16383 && leb (call .address) 16777215 && leb (call .mode) 1 && leb (call .asked) 1 && leb (call .sent) 1
     && leb 1 (call .plane) && leb (call .plane) 4 && leb 1 (call .kept) && leb (call .kept) 4 && leb (call .code) 15
+    && leb 1 (call .slots) && leb (call .slots) 4
 
 -- all but the state as in the fresh record
 unfoldable pub asFresh : Call → Bool
 asFresh call =
     eqb (call .id) 0 && eqb (call .address) 0 && eqb (call .mode) 0 && eqb (call .asked) 0 && eqb (call .sent) 0 && isUp call
-    && eqb (call .plane) 4 && eqb (call .kept) 4 && eqb (call .code) 0 && allStopped call
+    && eqb (call .plane) 4 && eqb (call .kept) 4 && eqb (call .code) 0 && eqb (call .slots) 1 && allStopped call
 
 -- T311 runs exactly when plane is 1; T306 runs exactly when restoring
 unfoldable pub timersAgree : Call → Bool

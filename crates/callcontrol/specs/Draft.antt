@@ -56,7 +56,7 @@ with d c =
 -- the call with other timers
 abbrev pub timersOf : Draft → List Bool → Call
 timersOf d t =
-    (record { state = d .call .state; id = d .call .id; address = d .call .address; mode = d .call .mode; asked = d .call .asked; sent = d .call .sent; path = d .call .path; plane = d .call .plane; kept = d .call .kept; code = d .call .code; timers = t })
+    (record { state = d .call .state; id = d .call .id; address = d .call .address; mode = d .call .mode; asked = d .call .asked; sent = d .call .sent; path = d .call .path; plane = d .call .plane; kept = d .call .kept; code = d .call .code; slots = d .call .slots; timers = t })
 
 -- what is stored
 
@@ -64,48 +64,54 @@ timersOf d t =
 unfoldable pub go : State → Draft → Draft
 go s d =
     with d
-    (record { state = s; id = d .call .id; address = d .call .address; mode = d .call .mode; asked = d .call .asked; sent = d .call .sent; path = d .call .path; plane = d .call .plane; kept = 4; code = d .call .code; timers = d .call .timers })
+    (record { state = s; id = d .call .id; address = d .call .address; mode = d .call .mode; asked = d .call .asked; sent = d .call .sent; path = d .call .path; plane = d .call .plane; kept = 4; code = d .call .code; slots = d .call .slots; timers = d .call .timers })
 
 unfoldable pub onPath : Path → Draft → Draft
 onPath p d =
     with d
-    (record { state = d .call .state; id = d .call .id; address = d .call .address; mode = d .call .mode; asked = d .call .asked; sent = d .call .sent; path = p; plane = d .call .plane; kept = d .call .kept; code = d .call .code; timers = d .call .timers })
+    (record { state = d .call .state; id = d .call .id; address = d .call .address; mode = d .call .mode; asked = d .call .asked; sent = d .call .sent; path = p; plane = d .call .plane; kept = d .call .kept; code = d .call .code; slots = d .call .slots; timers = d .call .timers })
 
 unfoldable pub storeId : ℕ → Draft → Draft
 storeId i d =
     with d
-    (record { state = d .call .state; id = i; address = d .call .address; mode = d .call .mode; asked = d .call .asked; sent = d .call .sent; path = d .call .path; plane = d .call .plane; kept = d .call .kept; code = d .call .code; timers = d .call .timers })
+    (record { state = d .call .state; id = i; address = d .call .address; mode = d .call .mode; asked = d .call .asked; sent = d .call .sent; path = d .call .path; plane = d .call .plane; kept = d .call .kept; code = d .call .code; slots = d .call .slots; timers = d .call .timers })
 
 unfoldable pub storeAddress : ℕ → Draft → Draft
 storeAddress a d =
     with d
-    (record { state = d .call .state; id = d .call .id; address = a; mode = d .call .mode; asked = d .call .asked; sent = d .call .sent; path = d .call .path; plane = d .call .plane; kept = d .call .kept; code = d .call .code; timers = d .call .timers })
+    (record { state = d .call .state; id = d .call .id; address = a; mode = d .call .mode; asked = d .call .asked; sent = d .call .sent; path = d .call .path; plane = d .call .plane; kept = d .call .kept; code = d .call .code; slots = d .call .slots; timers = d .call .timers })
 
 unfoldable pub storeMode : ℕ → Draft → Draft
 storeMode m d =
     with d
-    (record { state = d .call .state; id = d .call .id; address = d .call .address; mode = m; asked = d .call .asked; sent = d .call .sent; path = d .call .path; plane = d .call .plane; kept = d .call .kept; code = d .call .code; timers = d .call .timers })
+    (record { state = d .call .state; id = d .call .id; address = d .call .address; mode = m; asked = d .call .asked; sent = d .call .sent; path = d .call .path; plane = d .call .plane; kept = d .call .kept; code = d .call .code; slots = d .call .slots; timers = d .call .timers })
 
 unfoldable pub storeAsked : ℕ → Draft → Draft
 storeAsked q d =
     with d
-    (record { state = d .call .state; id = d .call .id; address = d .call .address; mode = d .call .mode; asked = q; sent = d .call .sent; path = d .call .path; plane = d .call .plane; kept = d .call .kept; code = d .call .code; timers = d .call .timers })
+    (record { state = d .call .state; id = d .call .id; address = d .call .address; mode = d .call .mode; asked = q; sent = d .call .sent; path = d .call .path; plane = d .call .plane; kept = d .call .kept; code = d .call .code; slots = d .call .slots; timers = d .call .timers })
 
 unfoldable pub storeSent : ℕ → Draft → Draft
 storeSent s d =
     with d
-    (record { state = d .call .state; id = d .call .id; address = d .call .address; mode = d .call .mode; asked = d .call .asked; sent = s; path = d .call .path; plane = d .call .plane; kept = d .call .kept; code = d .call .code; timers = d .call .timers })
+    (record { state = d .call .state; id = d .call .id; address = d .call .address; mode = d .call .mode; asked = d .call .asked; sent = s; path = d .call .path; plane = d .call .plane; kept = d .call .kept; code = d .call .code; slots = d .call .slots; timers = d .call .timers })
 
 unfoldable pub storeCode : ℕ → Draft → Draft
 storeCode o d =
     with d
-    (record { state = d .call .state; id = d .call .id; address = d .call .address; mode = d .call .mode; asked = d .call .asked; sent = d .call .sent; path = d .call .path; plane = d .call .plane; kept = d .call .kept; code = o; timers = d .call .timers })
+    (record { state = d .call .state; id = d .call .id; address = d .call .address; mode = d .call .mode; asked = d .call .asked; sent = d .call .sent; path = d .call .path; plane = d .call .plane; kept = d .call .kept; code = o; slots = d .call .slots; timers = d .call .timers })
+
+-- the slots that an event carries; 0 where its body has none, and then the held number stays
+unfoldable pub storeSlots : ℕ → Draft → Draft
+storeSlots s d =
+    with d
+    (record { state = d .call .state; id = d .call .id; address = d .call .address; mode = d .call .mode; asked = d .call .asked; sent = d .call .sent; path = d .call .path; plane = d .call .plane; kept = d .call .kept; code = d .call .code; slots = cond (eqb s 0) (d .call .slots) s; timers = d .call .timers })
 
 -- the plane to go back to after a pause
 unfoldable pub keep : ℕ → Draft → Draft
 keep p d =
     with d
-    (record { state = d .call .state; id = d .call .id; address = d .call .address; mode = d .call .mode; asked = d .call .asked; sent = d .call .sent; path = d .call .path; plane = d .call .plane; kept = p; code = d .call .code; timers = d .call .timers })
+    (record { state = d .call .state; id = d .call .id; address = d .call .address; mode = d .call .mode; asked = d .call .asked; sent = d .call .sent; path = d .call .path; plane = d .call .plane; kept = p; code = d .call .code; slots = d .call .slots; timers = d .call .timers })
 
 -- timers
 
@@ -165,7 +171,7 @@ samePlane d =
 unfoldable pub plane : ℕ → Draft → Draft
 plane p d =
     with d
-    (record { state = d .call .state; id = d .call .id; address = d .call .address; mode = d .call .mode; asked = d .call .asked; sent = d .call .sent; path = d .call .path; plane = p; kept = d .call .kept; code = d .call .code; timers = d .call .timers })
+    (record { state = d .call .state; id = d .call .id; address = d .call .address; mode = d .call .mode; asked = d .call .asked; sent = d .call .sent; path = d .call .path; plane = p; kept = d .call .kept; code = d .call .code; slots = d .call .slots; timers = d .call .timers })
     ▷ samePlane
     ▷ cond (eqb p 1) (start T311) (stop T311)
 
@@ -200,6 +206,10 @@ unfoldable pub tell : Message → Draft → Draft
 tell m d =
     record
     { call = d .call; stops = d .stops; starts = d .starts; cancel = d .cancel; pdu = d .pdu; configure = d .configure; user = Slot.Holds m; taken = d .taken }
+
+-- MODIFY indication, with the slots that are then held
+unfoldable pub tellModified : ℕ → Draft → Draft
+tellModified m d = d ▷ tell (Message.ModifyIndication m (d .call .slots))
 
 -- the end of a call
 

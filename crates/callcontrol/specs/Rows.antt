@@ -5,13 +5,13 @@ use mathlib.Core.Bool.{Bool, true, false, cond, not, _&&_, _||_}
 use lib.Dec.{leb, eqb}
 use Rattle.records.specs.declared.events.Event.{Event}
 use Rattle.records.specs.declared.events.Event.the-variants.{SetupRequest, SetupResponse, ReleaseRequest, TxRequest, ModifyRequest, DCallProceeding, DAlert, DConnect, DConnectAcknowledge, DSetup, DInfo, DTxGranted, DTxCeased, DTxInterrupt, DTxWait, DTxContinue, DCallRestore, DDisconnect, DRelease, ReportSent, ReportFailed, Break, Resume, Expiry}
-use Rattle.records.specs.declared.messages.Message.the-variants.{USetup, UConnect, URelease, UInfo, UTxDemand, UTxCeased, UCallRestore, SetupIndication, SetupConfirm, Proceed, Alert, Complete, ReleaseIndication, ReleaseConfirm, TxIndication, ModifyIndication}
+use Rattle.records.specs.declared.messages.Message.the-variants.{USetup, UConnect, URelease, UInfo, UTxDemand, UTxCeased, UCallRestore, SetupIndication, SetupConfirm, Proceed, Alert, Complete, ReleaseIndication, ReleaseConfirm, TxIndication}
 use Rattle.callcontrol.specs.declared.call.State.{State}
 use Rattle.callcontrol.specs.declared.call.Path.{Path}
 use Rattle.callcontrol.specs.declared.call.Call.{Call}
 use Rattle.callcontrol.specs.Draft.{Draft}
 use Rattle.callcontrol.specs.Call.{runs, T301, T302, T303, T306, T308, T310, T311}
-use Rattle.callcontrol.specs.Draft.{_▷_, draft, noRow, go, onPath, storeId, storeAddress, storeMode, storeAsked, storeSent, storeCode, keep, stop, stopAll, start, expired, restart, samePlane, plane, off, grant, grantOrOff, cancel, say, tell, over, release}
+use Rattle.callcontrol.specs.Draft.{_▷_, draft, noRow, go, onPath, storeId, storeAddress, storeMode, storeAsked, storeSent, storeCode, storeSlots, keep, stop, stopAll, start, expired, restart, samePlane, plane, off, grant, grantOrOff, cancel, say, tell, tellModified, over, release}
 
 -- what several situations share
 
@@ -40,18 +40,19 @@ expiry n c =
 -- IDLE
 unfoldable pub idle : Call → Event → Draft
 -- 14.5.1.1.2
-idle c (SetupRequest a d q) = draft c ▷ go State.MoCallSetup ▷ storeAddress a ▷ storeMode d ▷ storeAsked q ▷ say (USetup a d q) ▷ start T303
+idle c (SetupRequest a d q s) =
+    draft c ▷ go State.MoCallSetup ▷ storeAddress a ▷ storeMode d ▷ storeAsked q ▷ storeSlots s ▷ say (USetup a d q s) ▷ start T303
 idle c SetupResponse = noRow c
 idle c ReleaseRequest = noRow c
 idle c (TxRequest k) = noRow c
 idle c (ModifyRequest d) = noRow c
 idle c (DCallProceeding i) = noRow c
 idle c (DAlert i) = noRow c
-idle c (DConnect i g d o) = noRow c
+idle c (DConnect i g d o s) = noRow c
 idle c (DConnectAcknowledge i g o) = noRow c
 -- 14.5.1.1.1
 idle c (DSetup i a d) = draft c ▷ go State.MtCallSetup ▷ storeId i ▷ storeAddress a ▷ storeMode d ▷ tell (SetupIndication i a d)
-idle c (DInfo i r o d) = noRow c
+idle c (DInfo i r o d s) = noRow c
 idle c (DTxGranted i g) = noRow c
 idle c (DTxCeased i) = noRow c
 idle c (DTxInterrupt i g) = noRow c
@@ -68,7 +69,7 @@ idle c (Expiry n) = noRow c
 
 -- MO-CALL-SETUP
 unfoldable pub moCallSetup : Call → Event → Draft
-moCallSetup c (SetupRequest a d q) = noRow c
+moCallSetup c (SetupRequest a d q s) = noRow c
 moCallSetup c SetupResponse = noRow c
 -- 14.5.1.3.1
 moCallSetup c ReleaseRequest = cond (eqb (c .sent) 0) (draft c ▷ cancel ▷ stop T303 ▷ tell ReleaseConfirm ▷ over) (releasing c)
@@ -79,11 +80,12 @@ moCallSetup c (DCallProceeding i) = draft c ▷ storeId i ▷ storeSent 1 ▷ st
 -- 14.5.1.1.2
 moCallSetup c (DAlert i) = draft c ▷ storeId i ▷ storeSent 1 ▷ stop T303 ▷ start T302 ▷ tell Alert
 -- 14.5.1.1.2
-moCallSetup c (DConnect i g d o) =
+moCallSetup c (DConnect i g d o s) =
     draft c
     ▷ storeId i
     ▷ storeMode d
     ▷ storeCode o
+    ▷ storeSlots s
     ▷ storeSent 1
     ▷ go State.CallActive
     ▷ stop T302
@@ -93,7 +95,7 @@ moCallSetup c (DConnect i g d o) =
     ▷ tell (SetupConfirm i g)
 moCallSetup c (DConnectAcknowledge i g o) = noRow c
 moCallSetup c (DSetup i a d) = noRow c
-moCallSetup c (DInfo i r o d) = noRow c
+moCallSetup c (DInfo i r o d s) = noRow c
 moCallSetup c (DTxGranted i g) = noRow c
 moCallSetup c (DTxCeased i) = noRow c
 moCallSetup c (DTxInterrupt i g) = noRow c
@@ -115,7 +117,7 @@ moCallSetup c (Expiry n) = expiry n c
 
 -- MT-CALL-SETUP
 unfoldable pub mtCallSetup : Call → Event → Draft
-mtCallSetup c (SetupRequest a d q) = noRow c
+mtCallSetup c (SetupRequest a d q s) = noRow c
 -- 14.5.1.1.1
 mtCallSetup c SetupResponse = cond (runs c T301) (noRow c) (draft c ▷ say (UConnect (c .id)) ▷ start T301)
 -- 14.5.1.3.1
@@ -124,14 +126,14 @@ mtCallSetup c (TxRequest k) = noRow c
 mtCallSetup c (ModifyRequest d) = noRow c
 mtCallSetup c (DCallProceeding i) = noRow c
 mtCallSetup c (DAlert i) = noRow c
-mtCallSetup c (DConnect i g d o) = noRow c
+mtCallSetup c (DConnect i g d o s) = noRow c
 -- 14.5.1.1.1
 mtCallSetup c (DConnectAcknowledge i g o) =
     cond (runs c T301)
     (draft c ▷ storeCode o ▷ go State.CallActive ▷ stop T301 ▷ start T310 ▷ grantOrOff g ▷ tell (Complete g))
     (noRow c)
 mtCallSetup c (DSetup i a d) = noRow c
-mtCallSetup c (DInfo i r o d) = noRow c
+mtCallSetup c (DInfo i r o d s) = noRow c
 mtCallSetup c (DTxGranted i g) = noRow c
 mtCallSetup c (DTxCeased i) = noRow c
 mtCallSetup c (DTxInterrupt i g) = noRow c
@@ -162,11 +164,11 @@ ceases c =
     (cond (eqb (c .asked) 1) (draft c ▷ say (UTxCeased (c .id)) ▷ storeAsked 0) (noRow c))
 
 -- D-INFO with path up (14.5.1.2.3)
-unfoldable pub informed : ℕ → ℕ → ℕ → Call → Draft
-informed r o d c =
+unfoldable pub informed : ℕ → ℕ → ℕ → ℕ → Call → Draft
+informed r o d s c =
     cond (eqb d (c .mode))
-    (draft c ▷ restart r o ▷ samePlane ▷ tell (ModifyIndication d))
-    (draft c ▷ restart r o ▷ storeMode d ▷ off ▷ tell (ModifyIndication d))
+    (draft c ▷ restart r o ▷ storeSlots s ▷ samePlane ▷ tellModified d)
+    (draft c ▷ restart r o ▷ storeMode d ▷ storeSlots s ▷ off ▷ tellModified d)
 
 -- BREAK with path up (14.5.1.2.4): a permission that is cut is asked for again (H)
 unfoldable pub cut : Call → Draft
@@ -185,7 +187,7 @@ activeExpiry n c =
 
 -- CALL-ACTIVE, path up
 unfoldable pub activeUp : Call → Event → Draft
-activeUp c (SetupRequest a d q) = noRow c
+activeUp c (SetupRequest a d q s) = noRow c
 activeUp c SetupResponse = noRow c
 -- 14.5.1.3.1
 activeUp c ReleaseRequest = releasing c
@@ -195,10 +197,10 @@ activeUp c (TxRequest k) = cond (eqb k 1) (demands c) (ceases c)
 activeUp c (ModifyRequest d) = draft c ▷ say (UInfo (c .id) d)
 activeUp c (DCallProceeding i) = noRow c
 activeUp c (DAlert i) = noRow c
-activeUp c (DConnect i g d o) = noRow c
+activeUp c (DConnect i g d o s) = noRow c
 activeUp c (DConnectAcknowledge i g o) = noRow c
 activeUp c (DSetup i a d) = noRow c
-activeUp c (DInfo i r o d) = informed r o d c
+activeUp c (DInfo i r o d s) = informed r o d s c
 -- 14.5.1.2.1
 activeUp c (DTxGranted i g) = draft c ▷ grant g ▷ tell (TxIndication g)
 -- 14.5.1.2.1
@@ -225,7 +227,7 @@ asks c = cond (eqb (c .asked) 1 || eqb (c .mode) 1) 1 0
 
 -- CALL-ACTIVE, broken
 unfoldable pub activeBroken : Call → Event → Draft
-activeBroken c (SetupRequest a d q) = noRow c
+activeBroken c (SetupRequest a d q s) = noRow c
 activeBroken c SetupResponse = noRow c
 -- 14.5.1.3.1
 activeBroken c ReleaseRequest = releasing c
@@ -234,10 +236,10 @@ activeBroken c (TxRequest k) = cond (eqb (c .asked) k) (noRow c) (draft c ▷ st
 activeBroken c (ModifyRequest d) = noRow c
 activeBroken c (DCallProceeding i) = noRow c
 activeBroken c (DAlert i) = noRow c
-activeBroken c (DConnect i g d o) = noRow c
+activeBroken c (DConnect i g d o s) = noRow c
 activeBroken c (DConnectAcknowledge i g o) = noRow c
 activeBroken c (DSetup i a d) = noRow c
-activeBroken c (DInfo i r o d) = noRow c
+activeBroken c (DInfo i r o d s) = noRow c
 activeBroken c (DTxGranted i g) = noRow c
 activeBroken c (DTxCeased i) = noRow c
 activeBroken c (DTxInterrupt i g) = noRow c
@@ -263,7 +265,7 @@ activeBroken c (Expiry n) = expiry n c
 
 -- CALL-ACTIVE, restoring
 unfoldable pub activeRestoring : Call → Event → Draft
-activeRestoring c (SetupRequest a d q) = noRow c
+activeRestoring c (SetupRequest a d q s) = noRow c
 activeRestoring c SetupResponse = noRow c
 -- 14.5.1.3.1
 activeRestoring c ReleaseRequest = releasing c
@@ -271,10 +273,10 @@ activeRestoring c (TxRequest k) = noRow c
 activeRestoring c (ModifyRequest d) = noRow c
 activeRestoring c (DCallProceeding i) = noRow c
 activeRestoring c (DAlert i) = noRow c
-activeRestoring c (DConnect i g d o) = noRow c
+activeRestoring c (DConnect i g d o s) = noRow c
 activeRestoring c (DConnectAcknowledge i g o) = noRow c
 activeRestoring c (DSetup i a d) = noRow c
-activeRestoring c (DInfo i r o d) = noRow c
+activeRestoring c (DInfo i r o d s) = noRow c
 activeRestoring c (DTxGranted i g) = noRow c
 activeRestoring c (DTxCeased i) = noRow c
 activeRestoring c (DTxInterrupt i g) = noRow c
@@ -296,7 +298,7 @@ activeRestoring c (Expiry n) = expiry n c
 
 -- WAIT
 unfoldable pub wait : Call → Event → Draft
-wait c (SetupRequest a d q) = noRow c
+wait c (SetupRequest a d q s) = noRow c
 wait c SetupResponse = noRow c
 -- 14.5.1.3.1
 wait c ReleaseRequest = releasing c
@@ -304,10 +306,10 @@ wait c (TxRequest k) = noRow c
 wait c (ModifyRequest d) = noRow c
 wait c (DCallProceeding i) = noRow c
 wait c (DAlert i) = noRow c
-wait c (DConnect i g d o) = noRow c
+wait c (DConnect i g d o s) = noRow c
 wait c (DConnectAcknowledge i g o) = noRow c
 wait c (DSetup i a d) = noRow c
-wait c (DInfo i r o d) = noRow c
+wait c (DInfo i r o d s) = noRow c
 wait c (DTxGranted i g) = noRow c
 wait c (DTxCeased i) = noRow c
 wait c (DTxInterrupt i g) = noRow c
@@ -336,17 +338,17 @@ confirmed d = d ▷ stopAll ▷ off ▷ tell ReleaseConfirm ▷ over
 
 -- CALL-DISCONNECT
 unfoldable pub callDisconnect : Call → Event → Draft
-callDisconnect c (SetupRequest a d q) = noRow c
+callDisconnect c (SetupRequest a d q s) = noRow c
 callDisconnect c SetupResponse = noRow c
 callDisconnect c ReleaseRequest = noRow c
 callDisconnect c (TxRequest k) = noRow c
 callDisconnect c (ModifyRequest d) = noRow c
 callDisconnect c (DCallProceeding i) = noRow c
 callDisconnect c (DAlert i) = noRow c
-callDisconnect c (DConnect i g d o) = noRow c
+callDisconnect c (DConnect i g d o s) = noRow c
 callDisconnect c (DConnectAcknowledge i g o) = noRow c
 callDisconnect c (DSetup i a d) = noRow c
-callDisconnect c (DInfo i r o d) = noRow c
+callDisconnect c (DInfo i r o d s) = noRow c
 callDisconnect c (DTxGranted i g) = noRow c
 callDisconnect c (DTxCeased i) = noRow c
 callDisconnect c (DTxInterrupt i g) = noRow c

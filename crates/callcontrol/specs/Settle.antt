@@ -307,13 +307,13 @@ sentBy n held = cond (eqb n 1) 0 (cond (eqb n 2) 1 held)
 unfoldable pub nextBy : Call → Row → ℕ → List Bool → Call
 nextBy c r configure ts =
     cond (eqb (r .orders % 16) 7) freshCall
-    (record { state = stateBy (r .orders % 16) (c .state); id = r .id; address = r .address; mode = r .mode; asked = r .asked; sent = sentBy (r .orders / UNSENT % 16) (c .sent); path = pathBy (r .orders / UP % 16) (c .path); plane = planeBy (r .orders / PLANE-1 % 16) configure (c .plane); kept = keptBy (r .orders % 16) c; code = r .code; timers = ts })
+    (record { state = stateBy (r .orders % 16) (c .state); id = r .id; address = r .address; mode = r .mode; asked = r .asked; sent = sentBy (r .orders / UNSENT % 16) (c .sent); path = pathBy (r .orders / UP % 16) (c .path); plane = planeBy (r .orders / PLANE-1 % 16) configure (c .plane); kept = keptBy (r .orders % 16) c; code = r .code; slots = r .slots; timers = ts })
 
 -- the messages
 
 unfoldable pub pduBy : Row → Slot
 pduBy r =
-    cond (eqb (r .orders / U-SETUP % 16) 1) (Slot.Holds (Message.USetup (r .address) (r .mode) (r .asked)))
+    cond (eqb (r .orders / U-SETUP % 16) 1) (Slot.Holds (Message.USetup (r .address) (r .mode) (r .asked) (r .value)))
     (cond (eqb (r .orders / U-SETUP % 16) 2) (Slot.Holds (Message.UConnect (r .id)))
     (cond (eqb (r .orders / U-SETUP % 16) 3) (Slot.Holds (Message.UDisconnect (r .id) (r .value)))
     (cond (eqb (r .orders / U-SETUP % 16) 4) (Slot.Holds (Message.URelease (r .id)))
@@ -332,7 +332,7 @@ userBy r =
     (cond (eqb (r .orders / SETUP-INDICATION % 16) 6) (Slot.Holds (Message.ReleaseIndication (r .value)))
     (cond (eqb (r .orders / SETUP-INDICATION % 16) 7) (Slot.Holds Message.ReleaseConfirm)
     (cond (eqb (r .orders / SETUP-INDICATION % 16) 8) (Slot.Holds (Message.TxIndication (r .value)))
-    (cond (eqb (r .orders / SETUP-INDICATION % 16) 9) (Slot.Holds (Message.ModifyIndication (r .value))) Slot.Empty))))))))
+    (cond (eqb (r .orders / SETUP-INDICATION % 16) 9) (Slot.Holds (Message.ModifyIndication (r .mode) (r .slots))) Slot.Empty))))))))
 
 -- the draft that a row stands for, where it is one
 unfoldable pub settled : Call → Row → Draft
@@ -355,19 +355,19 @@ draftOf c r = cond (eqb (r .orders) 0) (noRow c) (settled c r)
 -- rows that store little, as the code makes them
 
 abbrev pub noneRow : Row
-noneRow = record { orders = 0; id = 0; address = 0; mode = 0; asked = 0; code = 0; value = 0 }
+noneRow = record { orders = 0; id = 0; address = 0; mode = 0; asked = 0; code = 0; slots = 0; value = 0 }
 
 -- stores nothing
 abbrev pub rowOf : Call → ℕ → ℕ → Row
-rowOf c n v = record { orders = n; id = c .id; address = c .address; mode = c .mode; asked = c .asked; code = c .code; value = v }
+rowOf c n v = record { orders = n; id = c .id; address = c .address; mode = c .mode; asked = c .asked; code = c .code; slots = c .slots; value = v }
 
 -- stores asked
 abbrev pub rowAsking : Call → ℕ → ℕ → ℕ → Row
-rowAsking c n q v = record { orders = n; id = c .id; address = c .address; mode = c .mode; asked = q; code = c .code; value = v }
+rowAsking c n q v = record { orders = n; id = c .id; address = c .address; mode = c .mode; asked = q; code = c .code; slots = c .slots; value = v }
 
 -- stores the identifier
 abbrev pub rowNaming : Call → ℕ → ℕ → ℕ → Row
-rowNaming c n i v = record { orders = n; id = i; address = c .address; mode = c .mode; asked = c .asked; code = c .code; value = v }
+rowNaming c n i v = record { orders = n; id = i; address = c .address; mode = c .mode; asked = c .asked; code = c .code; slots = c .slots; value = v }
 
 -- grant rule G: the plane of a grant, and what asked is then
 unfoldable pub planeGranted : ℕ → ℕ → ℕ
@@ -386,3 +386,7 @@ restarting r = cond (eqb r 1) START-310 0
 
 unfoldable pub codeAfter : ℕ → ℕ → ℕ → ℕ
 codeAfter r o held = cond (eqb r 1) (cond (eqb o 16) held o) held
+
+-- the slots then
+unfoldable pub slotsAfter : ℕ → ℕ → ℕ
+slotsAfter s held = cond (eqb s 0) held s

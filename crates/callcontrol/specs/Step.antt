@@ -38,17 +38,17 @@ refusal n c buffer = refusalAt n 0 c buffer
 
 -- the identifier of a network event but D-SETUP
 abbrev pub namedIn : Event → Named
-namedIn (SetupRequest a d q) = Named.NoCall
+namedIn (SetupRequest a d q s) = Named.NoCall
 namedIn SetupResponse = Named.NoCall
 namedIn ReleaseRequest = Named.NoCall
 namedIn (TxRequest k) = Named.NoCall
 namedIn (ModifyRequest d) = Named.NoCall
 namedIn (DCallProceeding i) = Named.Id i
 namedIn (DAlert i) = Named.Id i
-namedIn (DConnect i g d o) = Named.Id i
+namedIn (DConnect i g d o s) = Named.Id i
 namedIn (DConnectAcknowledge i g o) = Named.Id i
 namedIn (DSetup i a d) = Named.NoCall
-namedIn (DInfo i r o d) = Named.Id i
+namedIn (DInfo i r o d s) = Named.Id i
 namedIn (DTxGranted i g) = Named.Id i
 namedIn (DTxCeased i) = Named.Id i
 namedIn (DTxInterrupt i g) = Named.Id i
@@ -77,17 +77,17 @@ transmits c = eqb (c .plane) 1 || eqb (c .plane) 3
 
 -- D-INFO while the set transmits
 abbrev pub overTransmission : Call → Event → Bool
-overTransmission c (SetupRequest a d q) = false
+overTransmission c (SetupRequest a d q s) = false
 overTransmission c SetupResponse = false
 overTransmission c ReleaseRequest = false
 overTransmission c (TxRequest k) = false
 overTransmission c (ModifyRequest d) = false
 overTransmission c (DCallProceeding i) = false
 overTransmission c (DAlert i) = false
-overTransmission c (DConnect i g d o) = false
+overTransmission c (DConnect i g d o s) = false
 overTransmission c (DConnectAcknowledge i g o) = false
 overTransmission c (DSetup i a d) = false
-overTransmission c (DInfo i r o d) = transmits c
+overTransmission c (DInfo i r o d s) = transmits c
 overTransmission c (DTxGranted i g) = false
 overTransmission c (DTxCeased i) = false
 overTransmission c (DTxInterrupt i g) = false

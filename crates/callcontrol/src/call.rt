@@ -47,6 +47,8 @@ pub struct Call {
     pub kept: u8,
     // T310's code.
     pub code: u8,
+    // Slots per frame.
+    pub slots: u8,
     // Which of the timers 301 302 303 306 308 310 311 run.
     pub timers: [bool; 7],
 }
@@ -114,6 +116,8 @@ impl Call {
 
     pub const OFF: u8 = 4;
 
+    pub const SLOTS_MOST: u8 = 4;
+
     // No call.
     pub fn fresh() -> Self
         ensures { λ r. ⌜ r ≡ freshCall ⌝ }
@@ -129,6 +133,7 @@ impl Call {
             plane: Self::OFF,
             kept: Self::OFF,
             code: 0,
+            slots: 1,
             timers: [false; 7],
         }
     }
@@ -188,6 +193,8 @@ impl Call {
             & (1 <= self.kept)
             & (self.kept <= Self::OFF)
             & (self.code <= Self::CODE_MOST)
+            & (1 <= self.slots)
+            & (self.slots <= Self::SLOTS_MOST)
     }
 
     // All but the state as in the fresh record.
@@ -203,6 +210,7 @@ impl Call {
             & (self.plane == Self::OFF)
             & (self.kept == Self::OFF)
             & (self.code == 0)
+            & (self.slots == 1)
             & self.all_stopped()
     }
 

@@ -16,7 +16,8 @@ pub struct Row {
     pub mode: u8,
     pub asked: u8,
     pub code: u8,
-    // What a message tells beside that: a cause, a grant, a mode, or how a transmission stands.
+    pub slots: u8,
+    // What a message tells beside that: a cause, a grant, a mode, how a transmission stands, or the slots that a SETUP request carries.
     pub value: u8,
 }
 
@@ -164,6 +165,7 @@ impl Row {
             mode: 0,
             asked: 0,
             code: 0,
+            slots: 0,
             value: 0,
         }
     }
@@ -179,6 +181,7 @@ impl Row {
             mode: call.mode,
             asked: call.asked,
             code: call.code,
+            slots: call.slots,
             value,
         }
     }
@@ -194,6 +197,7 @@ impl Row {
             mode: call.mode,
             asked,
             code: call.code,
+            slots: call.slots,
             value,
         }
     }
@@ -209,6 +213,7 @@ impl Row {
             mode: call.mode,
             asked: call.asked,
             code: call.code,
+            slots: call.slots,
             value,
         }
     }

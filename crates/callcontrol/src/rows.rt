@@ -5,7 +5,7 @@ ghost use mathlib.Core.Bool.{cond, _||_};
 ghost use Prim.Native.Nat.{_+_, _≤_};
 ghost use lib.Dec.{eqb};
 ghost use Rattle.callcontrol.specs.Rows.{releasing, released, disconnected, expiry, idle, moCallSetup, mtCallSetup, demands, ceases, informed, cut, activeExpiry, activeUp, asks, activeBroken, activeRestoring, wait, callDisconnect, active, inState, rowFor};
-ghost use Rattle.callcontrol.specs.Settle.{draftOf, noneRow, rowAsking, RELEASE, RELEASE-INDICATION, planeGranted, planeOrOff, askedAfter, restarting, codeAfter};
+ghost use Rattle.callcontrol.specs.Settle.{draftOf, noneRow, rowAsking, RELEASE, RELEASE-INDICATION, planeGranted, planeOrOff, askedAfter, restarting, codeAfter, slotsAfter};
 use crate::call::Call;
 use crate::call::Path;
 use crate::call::State;
@@ -120,7 +120,7 @@ fn expiry(timer: u16, call: Call) -> Row
 }
 
 // Grant rule G: 0 gives plane 1, or 3 in duplex; 3 gives 2; 1 and 2 give no CONFIGURE.
-fn plane_granted(grant: u8, mode: u8) -> u64
+pub fn plane_granted(grant: u8, mode: u8) -> u64
     ensures { λ r. ⌜ r ≡ planeGranted grant mode ⌝ }
     ensures { λ r. ⌜ r ≤ 0x3000 ⌝ }
 {
@@ -137,7 +137,7 @@ fn plane_granted(grant: u8, mode: u8) -> u64
 }
 
 // G, with off for 1 and 2.
-fn plane_or_off(grant: u8, mode: u8) -> u64
+pub fn plane_or_off(grant: u8, mode: u8) -> u64
     ensures { λ r. ⌜ r ≡ planeOrOff grant mode ⌝ }
     ensures { λ r. ⌜ r ≤ 0x4000 ⌝ }
 {
@@ -151,7 +151,7 @@ fn plane_or_off(grant: u8, mode: u8) -> u64
 }
 
 // 0 and 1 clear asked; 2 and 3 keep it.
-fn asked_after(grant: u8, asked: u8) -> u8
+pub fn asked_after(grant: u8, asked: u8) -> u8
     ensures { λ r. ⌜ r ≡ askedAfter grant asked ⌝ }
 {
     if grant <= 1 {
@@ -161,7 +161,7 @@ fn asked_after(grant: u8, asked: u8) -> u8
 }
 
 // If reset is 1, T310 starts.
-fn restarting(reset: u8) -> u64
+pub fn restarting(reset: u8) -> u64
     ensures { λ r. ⌜ r ≡ restarting reset ⌝ }
     ensures { λ r. ⌜ r ≤ 0x20000000000 ⌝ }
 {
@@ -172,7 +172,7 @@ fn restarting(reset: u8) -> u64
 }
 
 // T310's code then: the received one, or the held one if it is 16 or T310 is left alone.
-fn code_after(reset: u8, code: u8, held: u8) -> u8
+pub fn code_after(reset: u8, code: u8, held: u8) -> u8
     ensures { λ r. ⌜ r ≡ codeAfter reset code held ⌝ }
 {
     if reset == 1 {
@@ -184,19 +184,35 @@ fn code_after(reset: u8, code: u8, held: u8) -> u8
     held
 }
 
+// The slots then: the carried ones, or the held ones where the body has none.
+pub fn slots_after(slots: u8, held: u8) -> u8
+    ensures { λ r. ⌜ r ≡ slotsAfter slots held ⌝ }
+{
+    if slots == 0 {
+        return held;
+    }
+    slots
+}
+
 fn idle(call: Call, event: Event) -> Row
     ensures { λ r. ⌜ draftOf call r ≡ idle call event ⌝ }
 {
     match event {
         // 14.5.1.1.2
-        Event::SetupRequest { address, mode, ask } => Row {
+        Event::SetupRequest {
+            address,
+            mode,
+            ask,
+            slots,
+        } => Row {
             orders: MO_CALL_SETUP + U_SETUP + START_303,
             id: call.id,
             address,
             mode,
             asked: ask,
             code: call.code,
-            value: 0,
+            slots: slots_after(slots, call.slots),
+            value: slots,
         },
         // 14.5.1.1.1
         Event::DSetup { id, address, mode } => Row {
@@ -206,6 +222,7 @@ fn idle(call: Call, event: Event) -> Row
             mode,
             asked: call.asked,
             code: call.code,
+            slots: call.slots,
             value: 0,
         },
         _ => Row::none(),
@@ -240,6 +257,7 @@ fn mo_call_setup(call: Call, event: Event) -> Row
             grant,
             mode,
             code,
+            slots,
         } => Row {
             orders: CALL_ACTIVE
                 + SENT
@@ -253,6 +271,7 @@ fn mo_call_setup(call: Call, event: Event) -> Row
             mode,
             asked: asked_after(grant, call.asked),
             code,
+            slots: slots_after(slots, call.slots),
             value: grant,
         },
         Event::DDisconnect { id } => disconnected(id, call),
@@ -303,6 +322,7 @@ fn mt_call_setup(call: Call, event: Event) -> Row
                     mode: call.mode,
                     asked: asked_after(grant, call.asked),
                     code,
+                    slots: call.slots,
                     value: grant,
                 };
             }
@@ -345,8 +365,8 @@ fn ceases(call: Call) -> Row
 }
 
 // D-INFO with path up (14.5.1.2.3).
-fn informed(call: Call, reset: u8, code: u8, mode: u8) -> Row
-    ensures { λ r. ⌜ draftOf call r ≡ informed reset code mode call ⌝ }
+fn informed(call: Call, reset: u8, code: u8, mode: u8, slots: u8) -> Row
+    ensures { λ r. ⌜ draftOf call r ≡ informed reset code mode slots call ⌝ }
 {
     if mode == call.mode {
         return Row {
@@ -356,7 +376,8 @@ fn informed(call: Call, reset: u8, code: u8, mode: u8) -> Row
             mode,
             asked: call.asked,
             code: code_after(reset, code, call.code),
-            value: mode,
+            slots: slots_after(slots, call.slots),
+            value: 0,
         };
     }
     Row {
@@ -366,12 +387,13 @@ fn informed(call: Call, reset: u8, code: u8, mode: u8) -> Row
         mode,
         asked: call.asked,
         code: code_after(reset, code, call.code),
-        value: mode,
+        slots: slots_after(slots, call.slots),
+        value: 0,
     }
 }
 
 // BREAK with path up: a permission that is cut is asked for again (H).
-fn asked_after_cut(call: Call) -> u8
+pub fn asked_after_cut(call: Call) -> u8
     ensures { λ r. ⌜ r ≡ cond (eqb (call .plane) 1 || eqb (call .plane) 3) 1 (call .asked) ⌝ }
 {
     if call.plane == 1 {
@@ -422,7 +444,8 @@ fn active_up(call: Call, event: Event) -> Row
             reset,
             code,
             mode,
-        } => informed(call, reset, code, mode),
+            slots,
+        } => informed(call, reset, code, mode, slots),
         // 14.5.1.2.1
         Event::DTxGranted { id: _, grant } => Row {
             orders: STAY + TX_INDICATION + plane_granted(grant, call.mode),
@@ -431,6 +454,7 @@ fn active_up(call: Call, event: Event) -> Row
             mode: call.mode,
             asked: asked_after(grant, call.asked),
             code: call.code,
+            slots: call.slots,
             value: grant,
         },
         // 14.5.1.2.1
@@ -453,7 +477,7 @@ fn active_up(call: Call, event: Event) -> Row
 }
 
 // What a restoration asks for: 1 if asked or duplex.
-fn asks(call: Call) -> u8
+pub fn asks(call: Call) -> u8
     ensures { λ r. ⌜ r ≡ asks call ⌝ }
 {
     if call.asked == 1 {
@@ -514,6 +538,7 @@ fn active_restoring(call: Call, event: Event) -> Row
             mode: call.mode, // the call that was cut
             asked: asked_after(grant, call.asked),
             code: code_after(reset, code, call.code),
+            slots: call.slots,
             value: grant,
         },
         Event::DDisconnect { id } => disconnected(id, call),

@@ -203,7 +203,7 @@ impl Timing {
     }
 }
 
-fn timing_by(orders: u64, code: u8, timers: [bool; 7], configure: u8) -> Timing
+pub fn timing_by(orders: u64, code: u8, timers: [bool; 7], configure: u8) -> Timing
     ensures { λ r. ⌜ r ≡ timingBy orders code timers configure ⌝ }
 {
     Timing::new(timers)
@@ -282,7 +282,7 @@ fn sent_by(digit: u64, held: u8) -> u8
     held
 }
 
-fn next_by(call: Call, row: Row, configure: u8, timers: [bool; 7]) -> Call
+pub fn next_by(call: Call, row: Row, configure: u8, timers: [bool; 7]) -> Call
     ensures { λ r. ⌜ r ≡ nextBy call row configure timers ⌝ }
 {
     let n = row.orders;
@@ -304,6 +304,7 @@ fn next_by(call: Call, row: Row, configure: u8, timers: [bool; 7]) -> Call
         plane: plane_by(n / PLANE_1 % 16, configure, call.plane),
         kept: kept_by(n % 16, call),
         code: row.code,
+        slots: row.slots,
         timers,
     }
 }
@@ -317,7 +318,12 @@ fn pdu_by(row: Row) -> Slot
     let ask = row.asked;
     let value = row.value;
     match row.orders / U_SETUP % 16 {
-        1 => Slot::Holds(Message::USetup { address, mode, ask }),
+        1 => Slot::Holds(Message::USetup {
+            address,
+            mode,
+            ask,
+            slots: value,
+        }),
         2 => Slot::Holds(Message::UConnect { id }),
         3 => Slot::Holds(Message::UDisconnect { id, cause: value }),
         4 => Slot::Holds(Message::URelease { id }),
@@ -335,6 +341,7 @@ fn user_by(row: Row) -> Slot
     let id = row.id;
     let address = row.address;
     let mode = row.mode;
+    let slots = row.slots;
     let value = row.value;
     match row.orders / SETUP_INDICATION % 16 {
         1 => Slot::Holds(Message::SetupIndication { id, address, mode }),
@@ -345,7 +352,7 @@ fn user_by(row: Row) -> Slot
         6 => Slot::Holds(Message::ReleaseIndication { cause: value }),
         7 => Slot::Holds(Message::ReleaseConfirm),
         8 => Slot::Holds(Message::TxIndication { told: value }),
-        9 => Slot::Holds(Message::ModifyIndication { mode: value }),
+        9 => Slot::Holds(Message::ModifyIndication { mode, slots }),
         _ => Slot::Empty,
     }
 }

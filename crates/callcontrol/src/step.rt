@@ -62,7 +62,7 @@ pub struct Stepped {
 }
 
 // A refusal counts 0 bytes and returns the record as given.
-fn refuse(answer: Answer, place: u8, call: Call) -> Stepped
+pub fn refuse(answer: Answer, place: u8, call: Call) -> Stepped
     ensures { λ r. ⌜ r ≡ refusing answer place call ⌝ }
 {
     Stepped {
@@ -91,6 +91,7 @@ fn named_in(event: Event) -> Named
             grant: _,
             mode: _,
             code: _,
+            slots: _,
         } => Named::Id(id),
         Event::DConnectAcknowledge {
             id,
@@ -102,6 +103,7 @@ fn named_in(event: Event) -> Named
             reset: _,
             code: _,
             mode: _,
+            slots: _,
         } => Named::Id(id),
         Event::DTxGranted { id, grant: _ } => Named::Id(id),
         Event::DTxCeased { id } => Named::Id(id),
@@ -147,6 +149,7 @@ fn over_transmission(call: Call, event: Event) -> bool
             reset: _,
             code: _,
             mode: _,
+            slots: _,
         } => transmits(call),
         _ => false,
     }

@@ -133,17 +133,17 @@ callNamed (Aim.Held i) = Named.Id i
 callNamed Aim.Every = Named.NoCall
 
 call-named : (e : Event) → namedIn e ≡ callNamed (aimOf e)
-call-named (Event.SetupRequest a d q) = refl
+call-named (Event.SetupRequest a d q s) = refl
 call-named Event.SetupResponse = refl
 call-named Event.ReleaseRequest = refl
 call-named (Event.TxRequest k) = refl
 call-named (Event.ModifyRequest d) = refl
 call-named (Event.DCallProceeding i) = refl
 call-named (Event.DAlert i) = refl
-call-named (Event.DConnect i g d o) = refl
+call-named (Event.DConnect i g d o s) = refl
 call-named (Event.DConnectAcknowledge i g o) = refl
 call-named (Event.DSetup i a d) = refl
-call-named (Event.DInfo i r o d) = refl
+call-named (Event.DInfo i r o d s) = refl
 call-named (Event.DTxGranted i g) = refl
 call-named (Event.DTxCeased i) = refl
 call-named (Event.DTxInterrupt i g) = refl

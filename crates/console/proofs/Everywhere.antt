@@ -127,17 +127,17 @@ own-room calls e own eight size = let w = few-from 0 calls e in omega arith
 
 -- only BREAK and RESUME are for every place
 pub every-is : (P : Event → Type 0) → P Event.Break → P Event.Resume → (e : Event) → aimOf e ≡ Aim.Every → P e
-every-is P b r (Event.SetupRequest a d q) h = let x : _≡_ {A = ℕ} 0 1 = cc h in absurd (omega arith)
+every-is P b r (Event.SetupRequest a d q s) h = let x : _≡_ {A = ℕ} 0 1 = cc h in absurd (omega arith)
 every-is P b r Event.SetupResponse h = let x : _≡_ {A = ℕ} 0 1 = cc h in absurd (omega arith)
 every-is P b r Event.ReleaseRequest h = let x : _≡_ {A = ℕ} 0 1 = cc h in absurd (omega arith)
 every-is P b r (Event.TxRequest k) h = let x : _≡_ {A = ℕ} 0 1 = cc h in absurd (omega arith)
 every-is P b r (Event.ModifyRequest d) h = let x : _≡_ {A = ℕ} 0 1 = cc h in absurd (omega arith)
 every-is P b r (Event.DCallProceeding i) h = let x : _≡_ {A = ℕ} 0 1 = cc h in absurd (omega arith)
 every-is P b r (Event.DAlert i) h = let x : _≡_ {A = ℕ} 0 1 = cc h in absurd (omega arith)
-every-is P b r (Event.DConnect i g d o) h = let x : _≡_ {A = ℕ} 0 1 = cc h in absurd (omega arith)
+every-is P b r (Event.DConnect i g d o s) h = let x : _≡_ {A = ℕ} 0 1 = cc h in absurd (omega arith)
 every-is P b r (Event.DConnectAcknowledge i g o) h = let x : _≡_ {A = ℕ} 0 1 = cc h in absurd (omega arith)
 every-is P b r (Event.DSetup i a d) h = let x : _≡_ {A = ℕ} 0 1 = cc h in absurd (omega arith)
-every-is P b r (Event.DInfo i s o d) h = let x : _≡_ {A = ℕ} 0 1 = cc h in absurd (omega arith)
+every-is P b r (Event.DInfo i u o d s) h = let x : _≡_ {A = ℕ} 0 1 = cc h in absurd (omega arith)
 every-is P b r (Event.DTxGranted i g) h = let x : _≡_ {A = ℕ} 0 1 = cc h in absurd (omega arith)
 every-is P b r (Event.DTxCeased i) h = let x : _≡_ {A = ℕ} 0 1 = cc h in absurd (omega arith)
 every-is P b r (Event.DTxInterrupt i g) h = let x : _≡_ {A = ℕ} 0 1 = cc h in absurd (omega arith)

@@ -20,7 +20,7 @@ use Rattle.callcontrol.specs.declared.call.Path.{Path}
 use Rattle.callcontrol.specs.declared.call.Call.{Call}
 use Rattle.callcontrol.specs.declared.draft.Slot.{Slot}
 use Rattle.callcontrol.specs.Call.{T301, T302, T303, T306, T308, T310, T311}
-use Rattle.callcontrol.specs.Draft.{Draft, _▷_, draft, noRow, go, onPath, storeId, storeMode, storeCode, storeSent, stop, start, plane, grant, grantOrOff, restart}
+use Rattle.callcontrol.specs.Draft.{Draft, _▷_, draft, noRow, go, onPath, storeId, storeMode, storeCode, storeSlots, storeSent, stop, start, plane, grant, grantOrOff, restart}
 use Rattle.callcontrol.specs.Rows
 use Rattle.callcontrol.specs.Rows.{rowFor}
 use Rattle.callcontrol.specs.Writing.{when, held, byNumber, starting, messagesIn, bytesOf}
@@ -113,14 +113,14 @@ plain-row (Row.releases l) = record { pdu = refl; user = tt }
 plain-row (Row.disconnects l i) = record { pdu = refl; user = refl }
 plain-row (Row.ends l i) = record { pdu = tt; user = refl }
 plain-row (Row.expires l n k t z) = record { pdu = refl; user = refl }
-plain-row (Row.calls a d q) = record { pdu = refl; user = tt }
+plain-row (Row.calls a d q s) = record { pdu = refl; user = tt }
 plain-row (Row.is-called i a d) = record { pdu = tt; user = refl }
 plain-row (Row.takes-back z) = record { pdu = tt; user = refl }
 plain-row (Row.releases-sent z) = record { pdu = refl; user = tt }
 plain-row (Row.proceeds i) = record { pdu = tt; user = refl }
 plain-row (Row.alerts i) = record { pdu = tt; user = refl }
-plain-row {c} (Row.connects i g d o) =
-    let x : Draft = draft c ▷ storeId i ▷ storeMode d ▷ storeCode o ▷ storeSent 1 ▷ go State.CallActive ▷ stop T302 ▷ stop T303 ▷ start T310 in
+plain-row {c} (Row.connects i g d o s) =
+    let x : Draft = draft c ▷ storeId i ▷ storeMode d ▷ storeCode o ▷ storeSlots s ▷ storeSent 1 ▷ go State.CallActive ▷ stop T302 ▷ stop T303 ▷ start T310 in
     record { pdu = grant-or-off-pdu x tt g; user = refl }
 plain-row (Row.sent z) = record { pdu = tt; user = tt }
 plain-row (Row.unsent z) = record { pdu = tt; user = refl }
@@ -131,8 +131,8 @@ plain-row (Row.asks-to-send k z y) = record { pdu = refl; user = tt }
 plain-row (Row.stops-sending k z y) = record { pdu = refl; user = tt }
 plain-row (Row.asks-no-more k z y x) = record { pdu = refl; user = tt }
 plain-row (Row.modifies d) = record { pdu = refl; user = tt }
-plain-row {c} (Row.same-mode i r o d z) = record { pdu = restart-pdu (draft c) tt r o; user = refl }
-plain-row {c} (Row.new-mode i r o d z) = record { pdu = restart-pdu (draft c) tt r o; user = refl }
+plain-row {c} (Row.same-mode i r o d s z) = record { pdu = restart-pdu (draft c) tt r o; user = refl }
+plain-row {c} (Row.new-mode i r o d s z) = record { pdu = restart-pdu (draft c) tt r o; user = refl }
 plain-row {c} (Row.granted i g) = record { pdu = grant-pdu (draft c) tt g; user = refl }
 plain-row (Row.ceased i) = record { pdu = tt; user = refl }
 plain-row {c} (Row.interrupted i g) = record { pdu = plane-pdu (draft c) tt (cond (eqb g 3) 2 4); user = refl }

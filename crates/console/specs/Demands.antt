@@ -138,6 +138,7 @@ Restoration c d i r o =
     × (d .id ≡ c .id)
     × (d .address ≡ c .address)
     × (d .mode ≡ c .mode)
+    × (d .slots ≡ c .slots)
     × (d .code ≡ cond (eqb r 1) (cond (eqb o 16) (c .code) o) (c .code))
     × (runs d T310 ≡ cond (eqb r 1) (not (eqb (d .code) 0)) (runs c T310))
     × (d .state ≡ State.CallActive)

@@ -25,17 +25,17 @@ consoleNumber ConsoleAnswer.NoIdlePlace = 43
 -- by what each event finds its place: REPORTs, expiries and user events but SETUP request name a place by a number handed in beside the
 -- record; SETUP request and D-SETUP begin a call; a network event other than D-SETUP has its identifier; BREAK and RESUME are for every place
 abbrev pub aimOf : Event → Aim
-aimOf (SetupRequest a d q) = Aim.Outgoing
+aimOf (SetupRequest a d q s) = Aim.Outgoing
 aimOf SetupResponse = Aim.Place
 aimOf ReleaseRequest = Aim.Place
 aimOf (TxRequest k) = Aim.Place
 aimOf (ModifyRequest d) = Aim.Place
 aimOf (DCallProceeding i) = Aim.Held i
 aimOf (DAlert i) = Aim.Held i
-aimOf (DConnect i g d o) = Aim.Held i
+aimOf (DConnect i g d o s) = Aim.Held i
 aimOf (DConnectAcknowledge i g o) = Aim.Held i
 aimOf (DSetup i a d) = Aim.Incoming i
-aimOf (DInfo i r o d) = Aim.Held i
+aimOf (DInfo i r o d s) = Aim.Held i
 aimOf (DTxGranted i g) = Aim.Held i
 aimOf (DTxCeased i) = Aim.Held i
 aimOf (DTxInterrupt i g) = Aim.Held i

@@ -7,7 +7,7 @@ use lib.Dec.{leb, eqb}
 use lib.ListN.{length, take, drop}
 use Rattle.records.specs.declared.events.Event.{Event}
 use Rattle.records.specs.declared.messages.Message.{Message}
-use Rattle.records.specs.declared.messages.Message.the-variants.{USetup, UConnect, UDisconnect, URelease, UInfo, UTxDemand, UTxCeased, UCallRestore, Stop, Start, Configure, Cancel, Place, SetupIndication, SetupConfirm, Proceed, Alert, Complete, ReleaseIndication, ReleaseConfirm, TxIndication, ModifyIndication}
+use Rattle.records.specs.declared.messages.Message.the-variants.{USetup, UConnect, UDisconnect, URelease, UInfo, UTxDemand, UTxCeased, UCallRestore, Stop, Start, Configure, Cancel, Place, ChannelAnswer, SetupIndication, SetupConfirm, Proceed, Alert, Complete, ReleaseIndication, ReleaseConfirm, TxIndication, ModifyIndication}
 use Rattle.records.specs.Tables.{Read, taken, refused, read}
 use Rattle.records.specs.Events.{events}
 use Rattle.callcontrol.specs.declared.call.Call.{Call}
@@ -75,7 +75,7 @@ framed calls t = framedFrom 0 calls (λ k. wentTo k calls t)
 
 -- the place that a message names: the record 0605 has one, and no other kind
 unfoldable pub namedBy : Message → Option ℕ
-namedBy (USetup a d q) = none
+namedBy (USetup a d q s) = none
 namedBy (UConnect i) = none
 namedBy (UDisconnect i c) = none
 namedBy (URelease i) = none
@@ -88,6 +88,7 @@ namedBy (Start n o) = none
 namedBy (Configure plane) = none
 namedBy Cancel = none
 namedBy (Place at) = some at
+namedBy (ChannelAnswer n v) = none
 namedBy (SetupIndication i a d) = none
 namedBy (SetupConfirm i g) = none
 namedBy Proceed = none
@@ -96,7 +97,7 @@ namedBy (Complete g) = none
 namedBy (ReleaseIndication c) = none
 namedBy ReleaseConfirm = none
 namedBy (TxIndication x) = none
-namedBy (ModifyIndication d) = none
+namedBy (ModifyIndication d s) = none
 
 -- whether what follows a message is for place k: as before, unless it names a place
 abbrev pub mineAfter : ℕ → Bool → Option ℕ → Bool

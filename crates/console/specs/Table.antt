@@ -23,6 +23,7 @@ noCall =
       plane = 0;
       kept = 0;
       code = 0;
+      slots = 0;
       timers = [];
     }
 

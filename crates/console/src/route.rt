@@ -64,6 +64,7 @@ pub fn aim_of(event: Event) -> Aim
             address: _,
             mode: _,
             ask: _,
+            slots: _,
         } => Aim::Outgoing,
         Event::SetupResponse => Aim::Place,
         Event::ReleaseRequest => Aim::Place,
@@ -76,6 +77,7 @@ pub fn aim_of(event: Event) -> Aim
             grant: _,
             mode: _,
             code: _,
+            slots: _,
         } => Aim::Held(id),
         Event::DConnectAcknowledge {
             id,
@@ -92,6 +94,7 @@ pub fn aim_of(event: Event) -> Aim
             reset: _,
             code: _,
             mode: _,
+            slots: _,
         } => Aim::Held(id),
         Event::DTxGranted { id, grant: _ } => Aim::Held(id),
         Event::DTxCeased { id } => Aim::Held(id),

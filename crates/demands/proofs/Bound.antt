@@ -1,5 +1,5 @@
 -- No step on a reached record counts more than 32 bytes, and none on a sound record more than 52: by what each row stops, starts and says.
-use Prim.Native.Nat.{ℕ, _+_, _*_, _≤_}
+use Prim.Native.Nat.{ℕ, zero, suc, _+_, _*_, _≤_}
 use mathlib.Core.Path.{_≡_, refl}
 use mathlib.Core.Bool.{Bool, true, false, cond, not, _&&_, _||_}
 use mathlib.Core.List.{List}
@@ -8,7 +8,7 @@ use borrow.Author.Tests.{leb-true, le-leb}
 use lib.Dec.{leb, eqb, lit≤}
 use lib.ListN.{length}
 use Rattle.records.specs.declared.events.Event.{Event}
-use Rattle.records.specs.declared.messages.Message.the-variants.{SetupConfirm, Complete, ReleaseIndication, TxIndication, ModifyIndication}
+use Rattle.records.specs.declared.messages.Message.the-variants.{SetupConfirm, Complete, ReleaseIndication, TxIndication}
 use Rattle.records.specs.Tables.{Read}
 use Rattle.records.specs.Messages.{messageSize}
 use Rattle.records.specs.Bodies.{flatSize}
@@ -18,7 +18,7 @@ use Rattle.callcontrol.specs.declared.call.Call.{Call}
 use Rattle.callcontrol.specs.declared.draft.Slot.{Slot}
 use Rattle.callcontrol.specs.Draft.{Draft}
 use Rattle.callcontrol.specs.Call.{freshCall, runs, T301, T302, T303, T306, T308, T310, T311}
-use Rattle.callcontrol.specs.Draft.{_▷_, draft, go, storeId, storeMode, storeCode, storeSent, start, stop, expired, samePlane, plane, off, grantOrOff, cancel, tell, release}
+use Rattle.callcontrol.specs.Draft.{_▷_, draft, go, storeId, storeMode, storeCode, storeSlots, storeSent, start, stop, expired, samePlane, plane, off, grantOrOff, cancel, tell, tellModified, release}
 use Rattle.callcontrol.specs.Rows
 use Rattle.callcontrol.specs.Rows.{rowFor}
 use Rattle.callcontrol.specs.Writing.{held, messagesIn, bytesOf, countOf}
@@ -72,14 +72,14 @@ abbrev lapse : ℕ → Call → Draft
 lapse k c = draft c ▷ expired k ▷ release 2 ▷ tell (ReleaseIndication 2)
 
 -- D-CONNECT and D-CONNECT ACKNOWLEDGE up to T310
-abbrev connecting : (i d o : ℕ) → Call → Draft
-connecting i d o c = draft c ▷ storeId i ▷ storeMode d ▷ storeCode o ▷ storeSent 1 ▷ go State.CallActive ▷ stop T302 ▷ stop T303
+abbrev connecting : (i d o s : ℕ) → Call → Draft
+connecting i d o s c = draft c ▷ storeId i ▷ storeMode d ▷ storeCode o ▷ storeSlots s ▷ storeSent 1 ▷ go State.CallActive ▷ stop T302 ▷ stop T303
 
 abbrev completing : ℕ → Call → Draft
 completing o c = draft c ▷ storeCode o ▷ go State.CallActive ▷ stop T301
 
-abbrev connect : (i g d o : ℕ) → Call → Draft
-connect i g d o c = connecting i d o c ▷ start T310 ▷ grantOrOff g ▷ tell (SetupConfirm i g)
+abbrev connect : (i g d o s : ℕ) → Call → Draft
+connect i g d o s c = connecting i d o s c ▷ start T310 ▷ grantOrOff g ▷ tell (SetupConfirm i g)
 
 record Ends (n : ℕ) (c : Call) : Type 0 where
   releasing : Within n (Rows.releasing c)
@@ -97,7 +97,7 @@ record Closes (n : ℕ) (c : Call) : Type 0 where
 -- what a state asks beside
 abbrev Special : ℕ → State → Call → Type 0
 Special n State.Idle c = Unit {0}
-Special n State.MoCallSetup c = (i g d o : ℕ) → Within n (connect i g d o c)
+Special n State.MoCallSetup c = (i g d o s : ℕ) → Within n (connect i g d o s c)
 Special n State.MtCallSetup c = Unit {0}
 Special n State.CallActive c = Unit {0}
 Special n State.Wait c = Unit {0}
@@ -129,13 +129,14 @@ module _ (n : ℕ) (enough : 27 ≤ n) where
   within ends (Row.disconnects l i) v h = ends .disconnected i
   within ends (Row.ends l i) v h = ends .released
   within ends (Row.expires l m k t z) v h = ends .lapsed m k t z
-  within ends (Row.calls a d q) idle h = more _ refl
+  within ends (Row.calls a d q zero) idle h = more _ refl
+  within ends (Row.calls a d q (suc s)) idle h = more _ refl
   within ends (Row.is-called i a d) idle h = more _ refl
   within ends (Row.takes-back z) (mo {t₃} m) h = more _ (elim t₃ [ true ↦ refl | false ↦ refl ])
   within ends (Row.releases-sent z) v h = ends .releasing
   within ends (Row.proceeds i) (mo {t₃} m) h = more _ (elim t₃ [ true ↦ refl | false ↦ refl ])
   within ends (Row.alerts i) (mo {t₃} m) h = more _ (elim t₃ [ true ↦ refl | false ↦ refl ])
-  within ends (Row.connects i g d o) v h = h i g d o
+  within ends (Row.connects i g d o s) v h = h i g d o s
   within ends (Row.sent z) v h = more _ refl
   within ends (Row.unsent z) (mo {t₃} m) h = more _ (elim t₃ [ true ↦ refl | false ↦ refl ])
   within ends (Row.answers z) v h = more _ refl
@@ -150,12 +151,12 @@ module _ (n : ℕ) (enough : 27 ≤ n) where
   within ends (Row.stops-sending k z y) (up {t₁₁} l p m) h = more _ (elim t₁₁ [ true ↦ refl | false ↦ refl ])
   within ends (Row.asks-no-more k z y x) v h = more _ refl
   within ends (Row.modifies d) v h = more _ refl
-  within ends (Row.same-mode i r o d z) (up {t₁₀ = true} l p m) h = more _ (by-restart (λ x. Within 27 (tell (ModifyIndication d) (samePlane x))) r o _ refl refl refl)
-  within ends (Row.same-mode i r o d z) (up {t₁₀ = false} l p m) h = more _ (by-restart (λ x. Within 27 (tell (ModifyIndication d) (samePlane x))) r o _ refl refl refl)
-  within ends (Row.new-mode i r o d z) (up {t₁₀ = true} {t₁₁ = true} l p m) h = more _ (by-restart (λ x. Within 27 (tell (ModifyIndication d) (off (storeMode d x)))) r o _ refl refl refl)
-  within ends (Row.new-mode i r o d z) (up {t₁₀ = false} {t₁₁ = true} l p m) h = more _ (by-restart (λ x. Within 27 (tell (ModifyIndication d) (off (storeMode d x)))) r o _ refl refl refl)
-  within ends (Row.new-mode i r o d z) (up {t₁₀ = true} {t₁₁ = false} l p m) h = more _ (by-restart (λ x. Within 27 (tell (ModifyIndication d) (off (storeMode d x)))) r o _ refl refl refl)
-  within ends (Row.new-mode i r o d z) (up {t₁₀ = false} {t₁₁ = false} l p m) h = more _ (by-restart (λ x. Within 27 (tell (ModifyIndication d) (off (storeMode d x)))) r o _ refl refl refl)
+  within ends (Row.same-mode i r o d s z) (up {t₁₀ = true} l p m) h = more _ (by-restart (λ x. Within 27 (tellModified d (samePlane (storeSlots s x)))) r o _ refl refl refl)
+  within ends (Row.same-mode i r o d s z) (up {t₁₀ = false} l p m) h = more _ (by-restart (λ x. Within 27 (tellModified d (samePlane (storeSlots s x)))) r o _ refl refl refl)
+  within ends (Row.new-mode i r o d s z) (up {t₁₀ = true} {t₁₁ = true} l p m) h = more _ (by-restart (λ x. Within 27 (tellModified d (off (storeSlots s (storeMode d x))))) r o _ refl refl refl)
+  within ends (Row.new-mode i r o d s z) (up {t₁₀ = false} {t₁₁ = true} l p m) h = more _ (by-restart (λ x. Within 27 (tellModified d (off (storeSlots s (storeMode d x))))) r o _ refl refl refl)
+  within ends (Row.new-mode i r o d s z) (up {t₁₀ = true} {t₁₁ = false} l p m) h = more _ (by-restart (λ x. Within 27 (tellModified d (off (storeSlots s (storeMode d x))))) r o _ refl refl refl)
+  within ends (Row.new-mode i r o d s z) (up {t₁₀ = false} {t₁₁ = false} l p m) h = more _ (by-restart (λ x. Within 27 (tellModified d (off (storeSlots s (storeMode d x))))) r o _ refl refl refl)
   within ends (Row.granted i g) (up {t₁₁ = true} l p m) h = more _ (by-grant (λ x. Within 27 (tell (TxIndication g) x)) g _ refl refl refl refl refl)
   within ends (Row.granted i g) (up {t₁₁ = false} l p m) h = more _ (by-grant (λ x. Within 27 (tell (TxIndication g) x)) g _ refl refl refl refl refl)
   within ends (Row.ceased i) (up {t₁₁} l p m) h = more _ (elim t₁₁ [ true ↦ refl | false ↦ refl ])
@@ -220,10 +221,10 @@ few-special : {s : State} {w : Path} {c : Call} → Timed s w c → Special 27 s
 unfolding sizes
 few-special Timers.idle = tt
 few-special {c} (Timers.mo {t = true} h) =
-    λ i g d o. by-start310 (λ x. Within 27 (tell (SetupConfirm i g) (grantOrOff g x))) (connecting i d o c) (by-grantOrOff (λ x. Within 27 (tell (SetupConfirm i g) x)) g _ refl refl refl refl refl refl refl)
+    λ i g d o s. by-start310 (λ x. Within 27 (tell (SetupConfirm i g) (grantOrOff g x))) (connecting i d o s c) (by-grantOrOff (λ x. Within 27 (tell (SetupConfirm i g) x)) g _ refl refl refl refl refl refl refl)
     (by-grantOrOff (λ x. Within 27 (tell (SetupConfirm i g) x)) g _ refl refl refl refl refl refl refl)
 few-special {c} (Timers.mo {t = false} h) =
-    λ i g d o. by-start310 (λ x. Within 27 (tell (SetupConfirm i g) (grantOrOff g x))) (connecting i d o c) (by-grantOrOff (λ x. Within 27 (tell (SetupConfirm i g) x)) g _ refl refl refl refl refl refl refl)
+    λ i g d o s. by-start310 (λ x. Within 27 (tell (SetupConfirm i g) (grantOrOff g x))) (connecting i d o s c) (by-grantOrOff (λ x. Within 27 (tell (SetupConfirm i g) x)) g _ refl refl refl refl refl refl refl)
     (by-grantOrOff (λ x. Within 27 (tell (SetupConfirm i g) x)) g _ refl refl refl refl refl refl refl)
 few-special Timers.mt = tt
 few-special Timers.up = tt
@@ -268,8 +269,8 @@ enough-32 ts t lent seven =
 -- ---- a sound record: any timers run, but not T306 and T311 at once
 
 data Six : Call → Type 0 where
-  not-306 : {st : State} {w : Path} {i a d q s pl k o : ℕ} {t₁ t₂ t₃ t₈ t₁₀ t₁₁ : Bool} → Six (call st w i a d q s pl k o t₁ t₂ t₃ false t₈ t₁₀ t₁₁)
-  not-311 : {st : State} {w : Path} {i a d q s pl k o : ℕ} {t₁ t₂ t₃ t₆ t₈ t₁₀ : Bool} → Six (call st w i a d q s pl k o t₁ t₂ t₃ t₆ t₈ t₁₀ false)
+  not-306 : {st : State} {w : Path} {i a d q s pl k o m : ℕ} {t₁ t₂ t₃ t₈ t₁₀ t₁₁ : Bool} → Six (call st w i a d q s pl k o m t₁ t₂ t₃ false t₈ t₁₀ t₁₁)
+  not-311 : {st : State} {w : Path} {i a d q s pl k o m : ℕ} {t₁ t₂ t₃ t₆ t₈ t₁₀ : Bool} → Six (call st w i a d q s pl k o m t₁ t₂ t₃ t₆ t₈ t₁₀ false)
 
 six : {s : State} {w : Path} {c : Call} → At s w c → Six c
 six idle = not-306
@@ -319,28 +320,28 @@ six-special : {s : State} {w : Path} {c : Call} → At s w c → Special 47 s c
 unfolding sizes
 six-special idle = tt
 six-special {c} (mo {t₂ = true} {t₃ = true} {t₁₀ = true} m) =
-    λ i g d o. by-start310 (λ x. Within 47 (tell (SetupConfirm i g) (grantOrOff g x))) (connecting i d o c) (by-grantOrOff (λ x. Within 47 (tell (SetupConfirm i g) x)) g _ refl refl refl refl refl refl refl)
+    λ i g d o s. by-start310 (λ x. Within 47 (tell (SetupConfirm i g) (grantOrOff g x))) (connecting i d o s c) (by-grantOrOff (λ x. Within 47 (tell (SetupConfirm i g) x)) g _ refl refl refl refl refl refl refl)
     (by-grantOrOff (λ x. Within 47 (tell (SetupConfirm i g) x)) g _ refl refl refl refl refl refl refl)
 six-special {c} (mo {t₂ = true} {t₃ = true} {t₁₀ = false} m) =
-    λ i g d o. by-start310 (λ x. Within 47 (tell (SetupConfirm i g) (grantOrOff g x))) (connecting i d o c) (by-grantOrOff (λ x. Within 47 (tell (SetupConfirm i g) x)) g _ refl refl refl refl refl refl refl)
+    λ i g d o s. by-start310 (λ x. Within 47 (tell (SetupConfirm i g) (grantOrOff g x))) (connecting i d o s c) (by-grantOrOff (λ x. Within 47 (tell (SetupConfirm i g) x)) g _ refl refl refl refl refl refl refl)
     (by-grantOrOff (λ x. Within 47 (tell (SetupConfirm i g) x)) g _ refl refl refl refl refl refl refl)
 six-special {c} (mo {t₂ = true} {t₃ = false} {t₁₀ = true} m) =
-    λ i g d o. by-start310 (λ x. Within 47 (tell (SetupConfirm i g) (grantOrOff g x))) (connecting i d o c) (by-grantOrOff (λ x. Within 47 (tell (SetupConfirm i g) x)) g _ refl refl refl refl refl refl refl)
+    λ i g d o s. by-start310 (λ x. Within 47 (tell (SetupConfirm i g) (grantOrOff g x))) (connecting i d o s c) (by-grantOrOff (λ x. Within 47 (tell (SetupConfirm i g) x)) g _ refl refl refl refl refl refl refl)
     (by-grantOrOff (λ x. Within 47 (tell (SetupConfirm i g) x)) g _ refl refl refl refl refl refl refl)
 six-special {c} (mo {t₂ = true} {t₃ = false} {t₁₀ = false} m) =
-    λ i g d o. by-start310 (λ x. Within 47 (tell (SetupConfirm i g) (grantOrOff g x))) (connecting i d o c) (by-grantOrOff (λ x. Within 47 (tell (SetupConfirm i g) x)) g _ refl refl refl refl refl refl refl)
+    λ i g d o s. by-start310 (λ x. Within 47 (tell (SetupConfirm i g) (grantOrOff g x))) (connecting i d o s c) (by-grantOrOff (λ x. Within 47 (tell (SetupConfirm i g) x)) g _ refl refl refl refl refl refl refl)
     (by-grantOrOff (λ x. Within 47 (tell (SetupConfirm i g) x)) g _ refl refl refl refl refl refl refl)
 six-special {c} (mo {t₂ = false} {t₃ = true} {t₁₀ = true} m) =
-    λ i g d o. by-start310 (λ x. Within 47 (tell (SetupConfirm i g) (grantOrOff g x))) (connecting i d o c) (by-grantOrOff (λ x. Within 47 (tell (SetupConfirm i g) x)) g _ refl refl refl refl refl refl refl)
+    λ i g d o s. by-start310 (λ x. Within 47 (tell (SetupConfirm i g) (grantOrOff g x))) (connecting i d o s c) (by-grantOrOff (λ x. Within 47 (tell (SetupConfirm i g) x)) g _ refl refl refl refl refl refl refl)
     (by-grantOrOff (λ x. Within 47 (tell (SetupConfirm i g) x)) g _ refl refl refl refl refl refl refl)
 six-special {c} (mo {t₂ = false} {t₃ = true} {t₁₀ = false} m) =
-    λ i g d o. by-start310 (λ x. Within 47 (tell (SetupConfirm i g) (grantOrOff g x))) (connecting i d o c) (by-grantOrOff (λ x. Within 47 (tell (SetupConfirm i g) x)) g _ refl refl refl refl refl refl refl)
+    λ i g d o s. by-start310 (λ x. Within 47 (tell (SetupConfirm i g) (grantOrOff g x))) (connecting i d o s c) (by-grantOrOff (λ x. Within 47 (tell (SetupConfirm i g) x)) g _ refl refl refl refl refl refl refl)
     (by-grantOrOff (λ x. Within 47 (tell (SetupConfirm i g) x)) g _ refl refl refl refl refl refl refl)
 six-special {c} (mo {t₂ = false} {t₃ = false} {t₁₀ = true} m) =
-    λ i g d o. by-start310 (λ x. Within 47 (tell (SetupConfirm i g) (grantOrOff g x))) (connecting i d o c) (by-grantOrOff (λ x. Within 47 (tell (SetupConfirm i g) x)) g _ refl refl refl refl refl refl refl)
+    λ i g d o s. by-start310 (λ x. Within 47 (tell (SetupConfirm i g) (grantOrOff g x))) (connecting i d o s c) (by-grantOrOff (λ x. Within 47 (tell (SetupConfirm i g) x)) g _ refl refl refl refl refl refl refl)
     (by-grantOrOff (λ x. Within 47 (tell (SetupConfirm i g) x)) g _ refl refl refl refl refl refl refl)
 six-special {c} (mo {t₂ = false} {t₃ = false} {t₁₀ = false} m) =
-    λ i g d o. by-start310 (λ x. Within 47 (tell (SetupConfirm i g) (grantOrOff g x))) (connecting i d o c) (by-grantOrOff (λ x. Within 47 (tell (SetupConfirm i g) x)) g _ refl refl refl refl refl refl refl)
+    λ i g d o s. by-start310 (λ x. Within 47 (tell (SetupConfirm i g) (grantOrOff g x))) (connecting i d o s c) (by-grantOrOff (λ x. Within 47 (tell (SetupConfirm i g) x)) g _ refl refl refl refl refl refl refl)
     (by-grantOrOff (λ x. Within 47 (tell (SetupConfirm i g) x)) g _ refl refl refl refl refl refl refl)
 six-special (mt l m) = tt
 six-special (up l p m) = tt

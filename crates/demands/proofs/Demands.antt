@@ -18,6 +18,7 @@ use Rattle.demands.proofs.Cut as Cut
 use Rattle.demands.proofs.WrittenInRange as WrittenInRange
 use Rattle.demands.proofs.ReadsBack as ReadsBack
 use Rattle.demands.proofs.Identified as Identified
+use Rattle.demands.proofs.Slotted as Slotted
 use Rattle.demands.proofs.Timers as Timers
 use Rattle.demands.proofs.Bound as Bound
 use Rattle.demands.proofs.Examples as Examples
@@ -130,6 +131,17 @@ ended-off ts t e = Told.told-is-plane (ts ++ t ∷ []) ∙ ap (λ (c : Call). c 
 
 pub no-other-end : claims.NoOtherEnd
 no-other-end = Ended.no-other-end
+
+pub ended-one-slot : claims.EndedOneSlot
+ended-one-slot = Slotted.ended-one-slot
+
+-- ---- slots per frame
+
+pub slotted : claims.Slotted
+slotted = Slotted.slotted
+
+pub one-slot : claims.OneSlot
+one-slot = Slotted.one-slot
 
 -- ---- in the client's words
 

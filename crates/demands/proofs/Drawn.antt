@@ -14,7 +14,7 @@ use Rattle.callcontrol.specs.declared.call.Call.{Call}
 use Rattle.callcontrol.specs.declared.draft.Slot.{Slot}
 use Rattle.callcontrol.specs.Draft.{Draft}
 use Rattle.callcontrol.specs.Call.{T301, T302, T303, T306, T308, T310, T311}
-use Rattle.callcontrol.specs.Draft.{_▷_, with, draft, go, onPath, storeId, storeAddress, storeMode, storeAsked, storeSent, storeCode, keep, stop, stopAll, start, expired, restart, samePlane, plane, off, grant, grantOrOff, cancel, say, tell, over, release}
+use Rattle.callcontrol.specs.Draft.{_▷_, with, draft, go, onPath, storeId, storeAddress, storeMode, storeAsked, storeSent, storeCode, storeSlots, keep, stop, stopAll, start, expired, restart, samePlane, plane, off, grant, grantOrOff, cancel, say, tell, tellModified, over, release}
 use Rattle.callcontrol.specs.Writing.{when, held, byNumber, starting, messagesIn}
 use Rattle.demands.specs.Runs.{toldAfter, lastTold}
 use Rattle.demands.specs.History.{granted}
@@ -120,7 +120,7 @@ begun s p m = drawn s p m refl (silent p) tt tt
 abbrev onPlane : ℕ → Draft → Draft
 onPlane x d =
     with d
-    (record { state = d .call .state; id = d .call .id; address = d .call .address; mode = d .call .mode; asked = d .call .asked; sent = d .call .sent; path = d .call .path; plane = x; kept = d .call .kept; code = d .call .code; timers = d .call .timers })
+    (record { state = d .call .state; id = d .call .id; address = d .call .address; mode = d .call .mode; asked = d .call .asked; sent = d .call .sent; path = d .call .path; plane = x; kept = d .call .kept; code = d .call .code; slots = d .call .slots; timers = d .call .timers })
 
 module _ {c : Call} {s : State} {p m k : ℕ} {d : Draft} where
   -- verbs that change none of it
@@ -148,6 +148,10 @@ module _ {c : Call} {s : State} {p m k : ℕ} {d : Draft} where
   pub coded : (x : ℕ) → Drawn c s p m k d → Drawn c s p m k (storeCode x d)
   unfolding storeCode
   coded x f = record { is = f .is }
+
+  pub slotted : (x : ℕ) → Drawn c s p m k d → Drawn c s p m k (storeSlots x d)
+  unfolding storeSlots
+  slotted x f = record { is = f .is }
 
   pub stopped : (x : ℕ) → Drawn c s p m k d → Drawn c s p m k (stop x d)
   unfolding stop
@@ -178,6 +182,10 @@ module _ {c : Call} {s : State} {p m k : ℕ} {d : Draft} where
   pub telling : (x : Message) → Plain x → Drawn c s p m k d → Drawn c s p m k (tell x d)
   unfolding tell
   telling x plain f = let g = f .is in drawn (g .state-is) (g .plane-is) (g .mode-is) (g .kept-is) (g .tells) (g .pdu-plain) plain
+
+  pub telling-modified : (x : ℕ) → Drawn c s p m k d → Drawn c s p m k (tellModified x d)
+  unfolding tellModified toldAfter
+  telling-modified x f = telling _ (λ q. refl) f
 
   -- verbs that change one part
 

@@ -205,7 +205,7 @@ left-by e c = cond (rowFor c e .taken) (rowFor c e .call) c
 -- over, or waiting for T308
 data Closing : Call → Type 0 where
   over : Closing freshCall
-  closing : {i a d q s pl k o : ℕ} → Closing (call State.CallDisconnect Path.Up i a d q s pl k o false false false false true false false)
+  closing : {i a d q s pl k o m : ℕ} → Closing (call State.CallDisconnect Path.Up i a d q s pl k o m false false false false true false false)
 
 one-of : (b : Bool) (x y : Draft) (c : Call) → x .taken ≡ true → y .taken ≡ true → Closing (x .call) → Closing (y .call)
     → Closing (cond (cond b x y .taken) (cond b x y .call) c)

@@ -18,6 +18,7 @@ pub mod Ranges
 pub mod Reading
 pub mod ReadsBack
 pub mod Situations
+pub mod Slotted
 pub mod Sound
 pub mod Timers
 pub mod Told

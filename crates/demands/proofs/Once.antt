@@ -13,7 +13,7 @@ use Rattle.callcontrol.specs.declared.call.State.{State}
 use Rattle.callcontrol.specs.declared.call.Path.{Path}
 use Rattle.callcontrol.specs.declared.call.Call.{Call}
 use Rattle.callcontrol.specs.declared.draft.Slot.{Slot}
-use Rattle.callcontrol.specs.Draft.{Draft, _▷_, draft, go, onPath, storeId, storeMode, storeCode, storeSent, stop, start, samePlane, plane, off, grant, grantOrOff, restart, tell}
+use Rattle.callcontrol.specs.Draft.{Draft, _▷_, draft, go, onPath, storeId, storeMode, storeCode, storeSlots, storeSent, stop, start, samePlane, plane, off, grant, grantOrOff, restart, tell}
 use Rattle.callcontrol.specs.Call.{freshCall, isIdle, T301, T302, T303, T306, T310}
 use Rattle.callcontrol.specs.Rows
 use Rattle.callcontrol.specs.Rows.{rowFor}
@@ -112,14 +112,14 @@ sends (Row.releases l) v = u-disconnect (live l) refl refl refl
 sends (Row.disconnects l i) v = u-release refl refl refl
 sends (Row.ends l i) v = neither refl refl (λ z. apart refl z)
 sends (Row.expires l n k t z) v = u-disconnect (live l) refl refl refl
-sends (Row.calls a d q) v = neither refl refl (λ z. lit≤ tt)
+sends (Row.calls a d q s) v = neither refl refl (λ z. lit≤ tt)
 sends (Row.is-called i a d) v = neither refl refl (λ z. lit≤ tt)
 sends (Row.takes-back r) v = neither refl refl (λ z. apart refl z)
 sends (Row.releases-sent r) v = u-disconnect refl refl refl refl
 sends {c} (Row.proceeds i) v = neither refl refl (λ z. due-most (c .state))
 sends {c} (Row.alerts i) v = neither refl refl (λ z. due-most (c .state))
-sends {c} (Row.connects i g d o) v =
-    let x : Draft = draft c ▷ storeId i ▷ storeMode d ▷ storeCode o ▷ storeSent 1 ▷ go State.CallActive ▷ stop T302 ▷ stop T303 ▷ start T310 in
+sends {c} (Row.connects i g d o s) v =
+    let x : Draft = draft c ▷ storeId i ▷ storeMode d ▷ storeCode o ▷ storeSlots s ▷ storeSent 1 ▷ go State.CallActive ▷ stop T302 ▷ stop T303 ▷ start T310 in
     tells-only (grantOrOff g x) (silent-grant-or-off x refl g) (SetupConfirm i g) refl refl refl
 sends {c} (Row.sent r) v = neither refl refl (λ z. due-most (c .state))
 sends (Row.unsent r) v = neither refl refl (λ z. apart refl z)
@@ -131,8 +131,12 @@ sends {c} (Row.asks-to-send k r y) v = neither refl refl (λ z. due-most (c .sta
 sends {c} (Row.stops-sending k r y) v = neither refl refl (λ z. due-most (c .state))
 sends {c} (Row.asks-no-more k r y x) v = neither refl refl (λ z. due-most (c .state))
 sends {c} (Row.modifies d) v = neither refl refl (λ z. due-most (c .state))
-sends {c} (Row.same-mode i r o d y) v = tells-only (samePlane (restart r o (draft c))) (silent-restart (draft c) refl r o) (ModifyIndication d) refl refl refl
-sends {c} (Row.new-mode i r o d y) v = tells-only (off (storeMode d (restart r o (draft c)))) (silent-restart (draft c) refl r o) (ModifyIndication d) refl refl refl
+sends {c} (Row.same-mode i r o d s y) v =
+    let x : Draft = samePlane (storeSlots s (restart r o (draft c))) in
+    tells-only x (silent-restart (draft c) refl r o) (ModifyIndication d (x .call .slots)) refl refl refl
+sends {c} (Row.new-mode i r o d s y) v =
+    let x : Draft = off (storeSlots s (storeMode d (restart r o (draft c)))) in
+    tells-only x (silent-restart (draft c) refl r o) (ModifyIndication d (x .call .slots)) refl refl refl
 sends {c} (Row.granted i g) v = tells-only (grant g (draft c)) (silent-grant (draft c) refl g) (TxIndication g) refl refl refl
 sends {c} (Row.ceased i) v = neither refl refl (λ z. due-most (c .state))
 sends {c} (Row.interrupted i g) v = tells-only (plane (cond (eqb g 3) 2 4) (draft c)) (silent-plane (draft c) refl (cond (eqb g 3) 2 4)) (TxIndication 5) refl refl refl

@@ -11,7 +11,7 @@ use lib.ListN.{length}
 use Rattle.records.specs.declared.events.Event.{Event}
 use Rattle.records.specs.Bytes.{number}
 use Rattle.records.specs.Bodies.{Values, Found, badAt, kindIn, bodyOf, size, valuesAt, numbersAt, allFit, flatFits}
-use Rattle.records.specs.Tables.{Read, taken, refused, orRefuse, orPlace, find, readBody, readAs, read, flat, fine}
+use Rattle.records.specs.Tables.{Read, taken, refused, orRefuse, orPlace, sized, known, find, readBody, readAmong, readAs, read, flat, fine}
 use Rattle.records.specs.Laws.{missing}
 use Rattle.records.specs.Events.{EventKind, eventRow, eventKinds, eventOf, events}
 use Rattle.records.proofs.Places.{values-fit, wrong-misfits}
@@ -26,15 +26,11 @@ pub data Reads (s : List ℕ) : Read Event → Type 0 where
 
 -- ---- 3: a number that no line has leads to no kind
 
-abbrev missed : Option EventKind → Bool
-missed none = true
-missed (some k) = false
-
-finds : (n : ℕ) (ks : List EventKind) → missing n (map (λ k. eventRow k .number) ks) ≡ missed (find events n ks)
+finds : (n : ℕ) (ks : List EventKind) → missing n (map (λ k. eventRow k .number) ks) ≡ not (known events n ks)
 finds n [] = refl
-finds n (k ∷ ks) = at-first (eqb n (eventRow k .number)) (find events n ks) (finds n ks)
+finds n (k ∷ ks) = at-first (eqb n (eventRow k .number)) (known events n ks) (finds n ks)
   where
-    at-first : (b : Bool) {m : Bool} (o : Option EventKind) → m ≡ missed o → (not b && m) ≡ missed (cond b (some k) o)
+    at-first : (b : Bool) {m : Bool} (o : Bool) → m ≡ not o → (not b && m) ≡ not (cond b true o)
     at-first true o rest = refl
     at-first false o rest = rest
 
@@ -45,35 +41,44 @@ value-fine : (k : EventKind) (vs : Values (eventRow k .letters)) → allFit (eve
 unfolding fine flatFits
 value-fine k vs fit =
     let same : allFit (flat events (eventOf k vs) .letters) (flat events (eventOf k vs) .values) ≡ allFit (eventRow k .letters) vs
-    = ap (λ (kv : (k : EventKind) × Values (eventRow k .letters)). allFit (eventRow (kv .0) .letters) (kv .1)) (event-lawful .together k vs) in
+    = ap (λ (kv : (k : EventKind) × Values (eventRow k .letters)). allFit (eventRow (kv .0) .letters) (kv .1)) (event-lawful .together k vs fit) in
     rw (same, fit)
 
 module _ (s : List ℕ) (lengthy : wrongLength s ≡ false) where
-  in-body : (k : EventKind) → find events (number 2 s 2) eventKinds ≡ some k → noKind s ≡ false → Reads s (readBody events k s)
+  in-body : (k : EventKind) → known events (number 2 s 2) eventKinds ≡ true → find events (number 2 s 2) (length s) eventKinds ≡ some k → noKind s ≡ false
+      → Reads s (readBody events k s)
   unfolding readBody bodyOf badBody bodyFits
-  in-body k h known = sized (eqb (length s) (4 + size (eventRow k .letters))) (valuesAt (eventRow k .letters) s 4) refl refl
+  in-body k there h kind = body (eqb (length s) (4 + size (eventRow k .letters))) (valuesAt (eventRow k .letters) s 4) refl refl
     where
       numbers : Values (eventRow k .letters)
       numbers = numbersAt (eventRow k .letters) s 4
 
       tested : {a b : Bool} → eqb (length s) (4 + size (eventRow k .letters)) ≡ a → allFit (eventRow k .letters) numbers ≡ b → badBody s ≡ not (a && b)
-      tested p q = rw (h, p, q)
+      tested p q = rw (there, h, p, q)
 
-      sized : (a : Bool) (o : Found (Values (eventRow k .letters))) → eqb (length s) (4 + size (eventRow k .letters)) ≡ a → valuesAt (eventRow k .letters) s 4 ≡ o
+      body : (a : Bool) (o : Found (Values (eventRow k .letters))) → eqb (length s) (4 + size (eventRow k .letters)) ≡ a → valuesAt (eventRow k .letters) s 4 ≡ o
           → Reads s (orPlace (cond a o (badAt 2)) (λ vs. taken (eventOf k vs)))
-      sized false o p q = bad-body lengthy known (tested p refl)
-      sized true (badAt place) p q = bad-body lengthy known (tested p (wrong-misfits (eventRow k .letters) s 4 q))
-      sized true (Found.is vs) p q =
+      body false o p q = bad-body lengthy kind (tested p refl)
+      body true (badAt place) p q = bad-body lengthy kind (tested p (wrong-misfits (eventRow k .letters) s 4 q))
+      body true (Found.is vs) p q =
           let fit : (vs ≡ numbers) × (allFit (eventRow k .letters) numbers ≡ true) = values-fit (eventRow k .letters) vs s 4 q in
-          is lengthy known (tested p (fit .1)) (value-fine k vs (rw (fit .0) (fit .1)))
+          is lengthy kind (tested p (fit .1)) (value-fine k vs (rw (fit .0) (fit .1)))
 
-  in-kind : (o : Option EventKind) → find events (number 2 s 2) eventKinds ≡ o → Reads s (orRefuse 3 o (λ k. readBody events k s))
+  -- a size that no line of the number has
+  in-size : (o : Option EventKind) → known events (number 2 s 2) eventKinds ≡ true → find events (number 2 s 2) (length s) eventKinds ≡ o → noKind s ≡ false
+      → Reads s (orPlace (sized o) (λ k. readBody events k s))
+  unfolding badBody
+  in-size none there h kind = bad-body lengthy kind (rw (there, h))
+  in-size (some k) there h kind = in-body k there h kind
+
+  in-kind : (b : Bool) → known events (number 2 s 2) eventKinds ≡ b
+      → Reads s (cond b (orPlace (sized (find events (number 2 s 2) (length s) eventKinds)) (λ k. readBody events k s)) (refused 3 0))
   unfolding noKind
-  in-kind none h = no-kind lengthy (rw h at (finds (number 2 s 2) eventKinds))
-  in-kind (some k) h = in-body k h (rw h at (finds (number 2 s 2) eventKinds))
+  in-kind false h = no-kind lengthy (rw h at (finds (number 2 s 2) eventKinds))
+  in-kind true h = in-size (find events (number 2 s 2) (length s) eventKinds) h refl (rw h at (finds (number 2 s 2) eventKinds))
 
 pub reads : (s : List ℕ) → Reads s (read events s)
-unfolding read readAs kindIn wrongLength
+unfolding read readAs readAmong kindIn wrongLength
 reads s = long (leb 4 (length s)) (eqb (number 2 s 0) (length s)) refl refl
   where
     tested : {a b : Bool} → leb 4 (length s) ≡ a → eqb (number 2 s 0) (length s) ≡ b → wrongLength s ≡ not (a && b)
@@ -83,7 +88,7 @@ reads s = long (leb 4 (length s)) (eqb (number 2 s 0) (length s)) refl refl
         → Reads s (orRefuse 2 (cond a (cond b (some (number 2 s 2)) none) none) (λ n. readAs events n s))
     long false b p q = bad-length (tested p q)
     long true false p q = bad-length (tested p q)
-    long true true p q = in-kind s (tested p q) (find events (number 2 s 2) eventKinds) refl
+    long true true p q = in-kind s (tested p q) (known events (number 2 s 2) eventKinds) refl
 
 -- ---- what follows
 

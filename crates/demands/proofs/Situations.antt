@@ -18,13 +18,15 @@ use Rattle.demands.proofs.Facts.{and, left, right}
 -- ---- the situations
 
 -- the numbers that every situation leaves open
-pub record Numbers (i a d q s o : ℕ) : Type 0 where
+pub record Numbers (i a d q s o m : ℕ) : Type 0 where
   pub id : i ≤ 16383
   pub address : a ≤ 16777215
   pub mode : d ≤ 1
   pub asked : q ≤ 1
   pub sent : s ≤ 1
   pub code : o ≤ 15
+  pub some-slots : 1 ≤ m
+  pub slots : m ≤ 4
 
 -- the planes one by one, each with whether T311 runs in it
 pub data Plane : ℕ → Bool → Type 0 where
@@ -34,8 +36,8 @@ pub data Plane : ℕ → Bool → Type 0 where
   none : Plane 4 false
 
 -- a call, its timers one by one
-abbrev pub call : State → Path → (i a d q s pl k o : ℕ) (t₁ t₂ t₃ t₆ t₈ t₁₀ t₁₁ : Bool) → Call
-call st p i a d q s pl k o t₁ t₂ t₃ t₆ t₈ t₁₀ t₁₁ =
+abbrev pub call : State → Path → (i a d q s pl k o m : ℕ) (t₁ t₂ t₃ t₆ t₈ t₁₀ t₁₁ : Bool) → Call
+call st p i a d q s pl k o m t₁ t₂ t₃ t₆ t₈ t₁₀ t₁₁ =
     record {
       state = st;
       id = i;
@@ -47,26 +49,27 @@ call st p i a d q s pl k o t₁ t₂ t₃ t₆ t₈ t₁₀ t₁₁ =
       plane = pl;
       kept = k;
       code = o;
+      slots = m;
       timers = t₁ ∷ t₂ ∷ t₃ ∷ t₆ ∷ t₈ ∷ t₁₀ ∷ t₁₁ ∷ [];
     }
 
 -- the sound calls of each state and path
 pub data At : State → Path → Call → Type 0 where
   idle : At State.Idle Path.Up freshCall
-  mo : {i a d q s o : ℕ} {t₁ t₂ t₃ t₈ t₁₀ : Bool} → Numbers i a d q s o
-      → At State.MoCallSetup Path.Up (call State.MoCallSetup Path.Up i a d q s 4 4 o t₁ t₂ t₃ false t₈ t₁₀ false)
-  mt : {i a d q s o : ℕ} {t₁ t₂ t₃ t₈ t₁₀ : Bool} → 1 ≤ i → Numbers i a d q s o
-      → At State.MtCallSetup Path.Up (call State.MtCallSetup Path.Up i a d q s 4 4 o t₁ t₂ t₃ false t₈ t₁₀ false)
-  up : {i a d q s p o : ℕ} {t₁ t₂ t₃ t₈ t₁₀ t₁₁ : Bool} → 1 ≤ i → Plane p t₁₁ → Numbers i a d q s o
-      → At State.CallActive Path.Up (call State.CallActive Path.Up i a d q s p 4 o t₁ t₂ t₃ false t₈ t₁₀ t₁₁)
-  broken : {i a d q s o : ℕ} {t₁ t₂ t₃ t₈ t₁₀ : Bool} → 1 ≤ i → Numbers i a d q s o
-      → At State.CallActive Path.Broken (call State.CallActive Path.Broken i a d q s 4 4 o t₁ t₂ t₃ false t₈ t₁₀ false)
-  restoring : {i a d q s o : ℕ} {t₁ t₂ t₃ t₈ t₁₀ : Bool} → 1 ≤ i → Numbers i a d q s o
-      → At State.CallActive Path.Restoring (call State.CallActive Path.Restoring i a d q s 4 4 o t₁ t₂ t₃ true t₈ t₁₀ false)
-  wait : {i a d q s k o : ℕ} {t₁ t₂ t₃ t₈ t₁₀ t : Bool} → 1 ≤ i → Plane k t → Numbers i a d q s o
-      → At State.Wait Path.Up (call State.Wait Path.Up i a d q s 4 k o t₁ t₂ t₃ false t₈ t₁₀ false)
-  disconnect : {i a d q s o : ℕ} {t₁ t₂ t₃ t₈ t₁₀ : Bool} → Numbers i a d q s o
-      → At State.CallDisconnect Path.Up (call State.CallDisconnect Path.Up i a d q s 4 4 o t₁ t₂ t₃ false t₈ t₁₀ false)
+  mo : {i a d q s o m : ℕ} {t₁ t₂ t₃ t₈ t₁₀ : Bool} → Numbers i a d q s o m
+      → At State.MoCallSetup Path.Up (call State.MoCallSetup Path.Up i a d q s 4 4 o m t₁ t₂ t₃ false t₈ t₁₀ false)
+  mt : {i a d q s o m : ℕ} {t₁ t₂ t₃ t₈ t₁₀ : Bool} → 1 ≤ i → Numbers i a d q s o m
+      → At State.MtCallSetup Path.Up (call State.MtCallSetup Path.Up i a d q s 4 4 o m t₁ t₂ t₃ false t₈ t₁₀ false)
+  up : {i a d q s p o m : ℕ} {t₁ t₂ t₃ t₈ t₁₀ t₁₁ : Bool} → 1 ≤ i → Plane p t₁₁ → Numbers i a d q s o m
+      → At State.CallActive Path.Up (call State.CallActive Path.Up i a d q s p 4 o m t₁ t₂ t₃ false t₈ t₁₀ t₁₁)
+  broken : {i a d q s o m : ℕ} {t₁ t₂ t₃ t₈ t₁₀ : Bool} → 1 ≤ i → Numbers i a d q s o m
+      → At State.CallActive Path.Broken (call State.CallActive Path.Broken i a d q s 4 4 o m t₁ t₂ t₃ false t₈ t₁₀ false)
+  restoring : {i a d q s o m : ℕ} {t₁ t₂ t₃ t₈ t₁₀ : Bool} → 1 ≤ i → Numbers i a d q s o m
+      → At State.CallActive Path.Restoring (call State.CallActive Path.Restoring i a d q s 4 4 o m t₁ t₂ t₃ true t₈ t₁₀ false)
+  wait : {i a d q s k o m : ℕ} {t₁ t₂ t₃ t₈ t₁₀ t : Bool} → 1 ≤ i → Plane k t → Numbers i a d q s o m
+      → At State.Wait Path.Up (call State.Wait Path.Up i a d q s 4 k o m t₁ t₂ t₃ false t₈ t₁₀ false)
+  disconnect : {i a d q s o m : ℕ} {t₁ t₂ t₃ t₈ t₁₀ : Bool} → Numbers i a d q s o m
+      → At State.CallDisconnect Path.Up (call State.CallDisconnect Path.Up i a d q s 4 4 o m t₁ t₂ t₃ false t₈ t₁₀ false)
 
 -- a call in its own situation
 abbrev pub Situated : Call → Type 0
@@ -84,7 +87,7 @@ plane-fits receive = (refl, refl, refl)
 plane-fits duplex = (refl, refl, refl)
 plane-fits none = (refl, refl, refl)
 
-ranged : {t u : Bool} (c : Call) → Numbers (c .id) (c .address) (c .mode) (c .asked) (c .sent) (c .code) → Plane (c .plane) t
+ranged : {t u : Bool} (c : Call) → Numbers (c .id) (c .address) (c .mode) (c .asked) (c .sent) (c .code) (c .slots) → Plane (c .plane) t
     → Plane (c .kept) u → inRange c ≡ true
 unfolding inRange
 ranged c n p k = search (and, le-leb, plane-fits p .0, plane-fits p .1, plane-fits k .0, plane-fits k .1) depth 12
@@ -120,7 +123,7 @@ plane-of (suc (suc (suc (suc (suc p))))) l h = absurd (omega (arith, leb-true (s
 
 -- the paper's clauses one by one
 pub record Clauses (c : Call) : Type 0 where
-  pub numbers : Numbers (c .id) (c .address) (c .mode) (c .asked) (c .sent) (c .code)
+  pub numbers : Numbers (c .id) (c .address) (c .mode) (c .asked) (c .sent) (c .code) (c .slots)
   pub told : Plane (c .plane) (eqb (c .plane) 1)
   pub held : Plane (c .kept) (eqb (c .kept) 1)
   pub fresh : (isIdle c ⇒ asFresh c) ≡ true
@@ -131,7 +134,7 @@ pub record Clauses (c : Call) : Type 0 where
   pub four-unless : (eqb (c .kept) 4 || eqb (stateNumber (c .state)) 4) ≡ true
   pub named-unless : (leb 1 (c .id) || mayLackId (c .state)) ≡ true
 
-numbers-of : (c : Call) → inRange c ≡ true → Numbers (c .id) (c .address) (c .mode) (c .asked) (c .sent) (c .code)
+numbers-of : (c : Call) → inRange c ≡ true → Numbers (c .id) (c .address) (c .mode) (c .asked) (c .sent) (c .code) (c .slots)
 unfolding inRange
 numbers-of c h = search (left, right, leb-true) depth 12
 
@@ -167,6 +170,7 @@ record Fresh (c : Call) : Type 0 where
   plane : c .plane ≡ 4
   kept : c .kept ≡ 4
   code : c .code ≡ 0
+  slots : c .slots ≡ 1
   t301 : runs c T301 ≡ false
   t302 : runs c T302 ≡ false
   t303 : runs c T303 ≡ false
@@ -179,20 +183,20 @@ fresh-of : (c : Call) → asFresh c ≡ true → Fresh c
 unfolding asFresh allStopped
 fresh-of c h = search (left, right, eqb-true, not-true) depth 20
 
-blank : (i a d q s p k o : ℕ) (t₁ t₂ t₃ t₆ t₈ t₁₀ t₁₁ : Bool) → Fresh (call State.Idle Path.Up i a d q s p k o t₁ t₂ t₃ t₆ t₈ t₁₀ t₁₁)
-    → call State.Idle Path.Up i a d q s p k o t₁ t₂ t₃ t₆ t₈ t₁₀ t₁₁ ≡ freshCall
-blank i a d q s p k o t₁ t₂ t₃ t₆ t₈ t₁₀ t₁₁ f = cc
+blank : (i a d q s p k o m : ℕ) (t₁ t₂ t₃ t₆ t₈ t₁₀ t₁₁ : Bool) → Fresh (call State.Idle Path.Up i a d q s p k o m t₁ t₂ t₃ t₆ t₈ t₁₀ t₁₁)
+    → call State.Idle Path.Up i a d q s p k o m t₁ t₂ t₃ t₆ t₈ t₁₀ t₁₁ ≡ freshCall
+blank i a d q s p k o m t₁ t₂ t₃ t₆ t₈ t₁₀ t₁₁ f = cc
 
-module _ {i a d q s p k o : ℕ} {t₁ t₂ t₃ t₆ t₈ t₁₀ t₁₁ : Bool} where
+module _ {i a d q s p k o m : ℕ} {t₁ t₂ t₃ t₆ t₈ t₁₀ t₁₁ : Bool} where
   -- a state and path in which the plane is off and none is kept
-  still : {st : State} {w : Path} → At st w (call st w i a d q s 4 4 o t₁ t₂ t₃ (eqb (pathNumber w) 2) t₈ t₁₀ false)
+  still : {st : State} {w : Path} → At st w (call st w i a d q s 4 4 o m t₁ t₂ t₃ (eqb (pathNumber w) 2) t₈ t₁₀ false)
       → (eqb p 4 || false) ≡ true → (eqb k 4 || false) ≡ true → t₁₁ ≡ eqb p 1 → t₆ ≡ eqb (pathNumber w) 2
-      → At st w (call st w i a d q s p k o t₁ t₂ t₃ t₆ t₈ t₁₀ t₁₁)
+      → At st w (call st w i a d q s p k o m t₁ t₂ t₃ t₆ t₈ t₁₀ t₁₁)
   still v h₁ h₂ h₃ h₄ = rw (h₄, h₃, is-four p h₁, is-four k h₂) v
 
-  seen-up : (st : State) → Clauses (call st Path.Up i a d q s p k o t₁ t₂ t₃ t₆ t₈ t₁₀ t₁₁)
-      → At st Path.Up (call st Path.Up i a d q s p k o t₁ t₂ t₃ t₆ t₈ t₁₀ t₁₁)
-  seen-up State.Idle f = rw (blank i a d q s p k o t₁ t₂ t₃ t₆ t₈ t₁₀ t₁₁ (fresh-of _ (f .fresh))) idle
+  seen-up : (st : State) → Clauses (call st Path.Up i a d q s p k o m t₁ t₂ t₃ t₆ t₈ t₁₀ t₁₁)
+      → At st Path.Up (call st Path.Up i a d q s p k o m t₁ t₂ t₃ t₆ t₈ t₁₀ t₁₁)
+  seen-up State.Idle f = rw (blank i a d q s p k o m t₁ t₂ t₃ t₆ t₈ t₁₀ t₁₁ (fresh-of _ (f .fresh))) idle
   seen-up State.MoCallSetup f = still (mo (f .numbers)) (f .off-unless) (f .four-unless) (f .t311) (f .t306)
   seen-up State.MtCallSetup f = still (mt (is-named i (f .named-unless)) (f .numbers)) (f .off-unless) (f .four-unless) (f .t311) (f .t306)
   seen-up State.CallActive f =
@@ -201,8 +205,8 @@ module _ {i a d q s p k o : ℕ} {t₁ t₂ t₃ t₆ t₈ t₁₀ t₁₁ : Boo
       rw (f .t306, f .t311, is-four p (f .off-unless)) (wait (is-named i (f .named-unless)) (f .held) (f .numbers))
   seen-up State.CallDisconnect f = still (disconnect (f .numbers)) (f .off-unless) (f .four-unless) (f .t311) (f .t306)
 
-  seen-active : (w : Path) → Clauses (call State.CallActive w i a d q s p k o t₁ t₂ t₃ t₆ t₈ t₁₀ t₁₁)
-      → At State.CallActive w (call State.CallActive w i a d q s p k o t₁ t₂ t₃ t₆ t₈ t₁₀ t₁₁)
+  seen-active : (w : Path) → Clauses (call State.CallActive w i a d q s p k o m t₁ t₂ t₃ t₆ t₈ t₁₀ t₁₁)
+      → At State.CallActive w (call State.CallActive w i a d q s p k o m t₁ t₂ t₃ t₆ t₈ t₁₀ t₁₁)
   seen-active Path.Up f = seen-up State.CallActive f
   seen-active Path.Broken f =
       still (broken (is-named i (f .named-unless)) (f .numbers)) (f .off-unless) (f .four-unless) (f .t311) (f .t306)
@@ -211,14 +215,14 @@ module _ {i a d q s p k o : ℕ} {t₁ t₂ t₃ t₆ t₈ t₁₀ t₁₁ : Boo
 
   -- the path is up in every other state
   seen-other : (st : State) → eqb (stateNumber st) 3 ≡ false → (w : Path)
-      → Clauses (call st w i a d q s p k o t₁ t₂ t₃ t₆ t₈ t₁₀ t₁₁)
-      → At st w (call st w i a d q s p k o t₁ t₂ t₃ t₆ t₈ t₁₀ t₁₁)
+      → Clauses (call st w i a d q s p k o m t₁ t₂ t₃ t₆ t₈ t₁₀ t₁₁)
+      → At st w (call st w i a d q s p k o m t₁ t₂ t₃ t₆ t₈ t₁₀ t₁₁)
   seen-other st h Path.Up f = seen-up st f
   seen-other st h Path.Broken f = absurd (false≢true (rw h at (f .up-unless)))
   seen-other st h Path.Restoring f = absurd (false≢true (rw h at (f .up-unless)))
 
-  seen : (st : State) (w : Path) → Clauses (call st w i a d q s p k o t₁ t₂ t₃ t₆ t₈ t₁₀ t₁₁)
-      → At st w (call st w i a d q s p k o t₁ t₂ t₃ t₆ t₈ t₁₀ t₁₁)
+  seen : (st : State) (w : Path) → Clauses (call st w i a d q s p k o m t₁ t₂ t₃ t₆ t₈ t₁₀ t₁₁)
+      → At st w (call st w i a d q s p k o m t₁ t₂ t₃ t₆ t₈ t₁₀ t₁₁)
   seen State.Idle = seen-other State.Idle refl
   seen State.MoCallSetup = seen-other State.MoCallSetup refl
   seen State.MtCallSetup = seen-other State.MtCallSetup refl
@@ -257,6 +261,7 @@ situated c h = timers (seven-of (c .timers) (h .size)) (clauses c (h .meets))
           plane = c .plane;
           kept = c .kept;
           code = c .code;
+          slots = c .slots;
           timers = ts;
         }
 

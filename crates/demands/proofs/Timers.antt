@@ -13,7 +13,7 @@ use Rattle.callcontrol.specs.declared.call.Call.{Call}
 use Rattle.callcontrol.specs.declared.draft.Slot.{Slot}
 use Rattle.callcontrol.specs.Draft.{Draft}
 use Rattle.callcontrol.specs.Call.{freshCall, runs, T302, T311}
-use Rattle.callcontrol.specs.Draft.{_▷_, draft, storeMode, storeAsked, storeCode, stop, start, expired, restart, samePlane, plane, off, grant, grantOrOff, cancel, tell, release}
+use Rattle.callcontrol.specs.Draft.{_▷_, draft, storeMode, storeAsked, storeCode, storeSlots, stop, start, expired, restart, samePlane, plane, off, grant, grantOrOff, cancel, tell, release}
 use Rattle.callcontrol.specs.Rows
 use Rattle.callcontrol.specs.Rows.{rowFor}
 use Rattle.demands.specs.Runs.{Turn, next, run}
@@ -26,21 +26,21 @@ use Rattle.demands.proofs.ByRow.{Ender, t301, t302, t303, t306, t310, R
 use Rattle.callcontrol.proofs.Verbs.{verbs}
 
 pub data Timed : State → Path → Call → Type 0 where
-  idle : {i a d q s pl k o : ℕ} → Timed State.Idle Path.Up (call State.Idle Path.Up i a d q s pl k o false false false false false false false)
+  idle : {i a d q s pl k o m : ℕ} → Timed State.Idle Path.Up (call State.Idle Path.Up i a d q s pl k o m false false false false false false false)
   -- T302 runs only where U-SETUP is known to be sent
-  mo : {i a d q s pl k o : ℕ} {t : Bool} → (t && eqb s 0) ≡ false
-      → Timed State.MoCallSetup Path.Up (call State.MoCallSetup Path.Up i a d q s pl k o false t (not t) false false false false)
-  mt : {i a d q s pl k o : ℕ} {t : Bool}
-      → Timed State.MtCallSetup Path.Up (call State.MtCallSetup Path.Up i a d q s pl k o t false false false false false false)
-  up : {i a d q s pl k o : ℕ} {t : Bool}
-      → Timed State.CallActive Path.Up (call State.CallActive Path.Up i a d q s pl k o false false false false false (not (eqb o 0)) t)
-  broken : {i a d q s pl k o : ℕ}
-      → Timed State.CallActive Path.Broken (call State.CallActive Path.Broken i a d q s pl k o false false false false false (not (eqb o 0)) false)
-  restoring : {i a d q s pl k o : ℕ}
-      → Timed State.CallActive Path.Restoring (call State.CallActive Path.Restoring i a d q s pl k o false false false true false (not (eqb o 0)) false)
-  wait : {i a d q s pl k o : ℕ} → Timed State.Wait Path.Up (call State.Wait Path.Up i a d q s pl k o false false false false false (not (eqb o 0)) false)
-  disconnect : {i a d q s pl k o : ℕ}
-      → Timed State.CallDisconnect Path.Up (call State.CallDisconnect Path.Up i a d q s pl k o false false false false true false false)
+  mo : {i a d q s pl k o m : ℕ} {t : Bool} → (t && eqb s 0) ≡ false
+      → Timed State.MoCallSetup Path.Up (call State.MoCallSetup Path.Up i a d q s pl k o m false t (not t) false false false false)
+  mt : {i a d q s pl k o m : ℕ} {t : Bool}
+      → Timed State.MtCallSetup Path.Up (call State.MtCallSetup Path.Up i a d q s pl k o m t false false false false false false)
+  up : {i a d q s pl k o m : ℕ} {t : Bool}
+      → Timed State.CallActive Path.Up (call State.CallActive Path.Up i a d q s pl k o m false false false false false (not (eqb o 0)) t)
+  broken : {i a d q s pl k o m : ℕ}
+      → Timed State.CallActive Path.Broken (call State.CallActive Path.Broken i a d q s pl k o m false false false false false (not (eqb o 0)) false)
+  restoring : {i a d q s pl k o m : ℕ}
+      → Timed State.CallActive Path.Restoring (call State.CallActive Path.Restoring i a d q s pl k o m false false false true false (not (eqb o 0)) false)
+  wait : {i a d q s pl k o m : ℕ} → Timed State.Wait Path.Up (call State.Wait Path.Up i a d q s pl k o m false false false false false (not (eqb o 0)) false)
+  disconnect : {i a d q s pl k o m : ℕ}
+      → Timed State.CallDisconnect Path.Up (call State.CallDisconnect Path.Up i a d q s pl k o m false false false false true false false)
 
 abbrev pub Clocked : Call → Type 0
 Clocked c = Timed (c .state) (c .path) c
@@ -48,10 +48,10 @@ Clocked c = Timed (c .state) (c .path) c
 -- ---- the verbs that ask about numbers, on a call that is active with its path up
 
 data Talks : Draft → Type 0 where
-  talks : {i a d q s pl k o : ℕ} {t : Bool} {stops starts : List Bool} {out : Bool} {pdu user : Slot} {configure : ℕ} {taken : Bool}
+  talks : {i a d q s pl k o m : ℕ} {t : Bool} {stops starts : List Bool} {out : Bool} {pdu user : Slot} {configure : ℕ} {taken : Bool}
       → Talks
       (record {
-        call = call State.CallActive Path.Up i a d q s pl k o false false false false false (not (eqb o 0)) t;
+        call = call State.CallActive Path.Up i a d q s pl k o m false false false false false (not (eqb o 0)) t;
         stops = stops;
         starts = starts;
         cancel = out;
@@ -88,6 +88,10 @@ modes : {x : Draft} (m : ℕ) → Talks x → Talks (storeMode m x)
 unfolding storeMode
 modes m talks = talks
 
+slots : {x : Draft} (s : ℕ) → Talks x → Talks (storeSlots s x)
+unfolding storeSlots
+slots s talks = talks
+
 grants : {x : Draft} (g : ℕ) → Talks x → Talks (grant g x)
 unfolding grant
 grants g v = search (one-of, planes, clears)
@@ -108,7 +112,7 @@ and-false false = refl
 
 -- whatever runs, the end of a call by this side leaves T308 alone
 data Any : Call → Type 0 where
-  any : {st : State} {w : Path} {i a d q s pl k o : ℕ} {t₁ t₂ t₃ t₆ t₈ t₁₀ t₁₁ : Bool} → Any (call st w i a d q s pl k o t₁ t₂ t₃ t₆ t₈ t₁₀ t₁₁)
+  any : {st : State} {w : Path} {i a d q s pl k o m : ℕ} {t₁ t₂ t₃ t₆ t₈ t₁₀ t₁₁ : Bool} → Any (call st w i a d q s pl k o m t₁ t₂ t₃ t₆ t₈ t₁₀ t₁₁)
 
 any-of : {s : State} {w : Path} {c : Call} → Timed s w c → Any c
 any-of idle = any
@@ -138,13 +142,13 @@ row-clocked (Row.releases l) v = releasing (any-of v)
 row-clocked (Row.disconnects l i) v = idle
 row-clocked (Row.ends l i) v = idle
 row-clocked (Row.expires l n k t z) v = lapsed t (any-of v)
-row-clocked (Row.calls a d q) idle = mo refl
+row-clocked (Row.calls a d q s) idle = mo refl
 row-clocked (Row.is-called i a d) idle = mt
 row-clocked (Row.takes-back z) (mo h) = idle
 row-clocked (Row.releases-sent z) v = releasing (any-of v)
 row-clocked (Row.proceeds i) (mo h) = mo refl
 row-clocked (Row.alerts i) (mo h) = mo refl
-row-clocked (Row.connects i g d o) (mo h) = clocked (grants-or-off g talks)
+row-clocked (Row.connects i g d o s) (mo h) = clocked (grants-or-off g talks)
 row-clocked (Row.sent z) (mo {t} h) = mo (and-false t)
 row-clocked (Row.unsent z) (mo h) = idle
 row-clocked (Row.answers z) mt = mt
@@ -153,8 +157,8 @@ row-clocked (Row.asks-to-send k z y) up = up
 row-clocked (Row.stops-sending k z y) up = up
 row-clocked (Row.asks-no-more k z y x) up = up
 row-clocked (Row.modifies d) up = up
-row-clocked (Row.same-mode i r o d z) up = clocked (restarts r o talks)
-row-clocked (Row.new-mode i r o d z) up = clocked (off-is (modes d (restarts r o talks)))
+row-clocked (Row.same-mode i r o d s z) up = clocked (slots s (restarts r o talks))
+row-clocked (Row.new-mode i r o d s z) up = clocked (off-is (slots s (modes d (restarts r o talks))))
 row-clocked (Row.granted i g) up = clocked (grants g talks)
 row-clocked (Row.ceased i) up = up
 row-clocked (Row.interrupted i g) (up {pl}) = clocked (planes (cond (eqb g 3) 2 4) (talks {pl = pl} {configure = 0}))
@@ -219,25 +223,25 @@ sent-before-t302 ts = sent-first (reached ts)
 -- ---- so at most two run at a time
 
 pub data Few : Call → Type 0 where
-  none : {st : State} {w : Path} {i a d q s pl k o : ℕ} → Few (call st w i a d q s pl k o false false false false false false false)
-  one : {st : State} {w : Path} {i a d q s pl k o : ℕ} → Few (call st w i a d q s pl k o true false false false false false false)
-  two : {st : State} {w : Path} {i a d q s pl k o : ℕ} → Few (call st w i a d q s pl k o false true false false false false false)
-  three : {st : State} {w : Path} {i a d q s pl k o : ℕ} → Few (call st w i a d q s pl k o false false true false false false false)
-  eight : {st : State} {w : Path} {i a d q s pl k o : ℕ} → Few (call st w i a d q s pl k o false false false false true false false)
-  ten : {st : State} {w : Path} {i a d q s pl k o : ℕ} → Few (call st w i a d q s pl k o false false false false false true false)
-  ten-eleven : {st : State} {w : Path} {i a d q s pl k o : ℕ} → Few (call st w i a d q s pl k o false false false false false true true)
-  eleven-only : {st : State} {w : Path} {i a d q s pl k o : ℕ} → Few (call st w i a d q s pl k o false false false false false false true)
-  six-only : {st : State} {w : Path} {i a d q s pl k o : ℕ} → Few (call st w i a d q s pl k o false false false true false false false)
-  six-ten : {st : State} {w : Path} {i a d q s pl k o : ℕ} → Few (call st w i a d q s pl k o false false false true false true false)
+  none : {st : State} {w : Path} {i a d q s pl k o m : ℕ} → Few (call st w i a d q s pl k o m false false false false false false false)
+  one : {st : State} {w : Path} {i a d q s pl k o m : ℕ} → Few (call st w i a d q s pl k o m true false false false false false false)
+  two : {st : State} {w : Path} {i a d q s pl k o m : ℕ} → Few (call st w i a d q s pl k o m false true false false false false false)
+  three : {st : State} {w : Path} {i a d q s pl k o m : ℕ} → Few (call st w i a d q s pl k o m false false true false false false false)
+  eight : {st : State} {w : Path} {i a d q s pl k o m : ℕ} → Few (call st w i a d q s pl k o m false false false false true false false)
+  ten : {st : State} {w : Path} {i a d q s pl k o m : ℕ} → Few (call st w i a d q s pl k o m false false false false false true false)
+  ten-eleven : {st : State} {w : Path} {i a d q s pl k o m : ℕ} → Few (call st w i a d q s pl k o m false false false false false true true)
+  eleven-only : {st : State} {w : Path} {i a d q s pl k o m : ℕ} → Few (call st w i a d q s pl k o m false false false false false false true)
+  six-only : {st : State} {w : Path} {i a d q s pl k o m : ℕ} → Few (call st w i a d q s pl k o m false false false true false false false)
+  six-ten : {st : State} {w : Path} {i a d q s pl k o m : ℕ} → Few (call st w i a d q s pl k o m false false false true false true false)
 
 -- T310 runs or not, by its code
-beside-311 : {st : State} {w : Path} {i a d q s pl k o : ℕ} (u t : Bool) → Few (call st w i a d q s pl k o false false false false false u t)
+beside-311 : {st : State} {w : Path} {i a d q s pl k o m : ℕ} (u t : Bool) → Few (call st w i a d q s pl k o m false false false false false u t)
 beside-311 true true = ten-eleven
 beside-311 true false = ten
 beside-311 false true = eleven-only
 beside-311 false false = none
 
-beside-306 : {st : State} {w : Path} {i a d q s pl k o : ℕ} (u : Bool) → Few (call st w i a d q s pl k o false false false true false u false)
+beside-306 : {st : State} {w : Path} {i a d q s pl k o m : ℕ} (u : Bool) → Few (call st w i a d q s pl k o m false false false true false u false)
 beside-306 true = six-ten
 beside-306 false = six-only
 
@@ -255,7 +259,7 @@ few disconnect = eight
 
 -- the situations in which T310 may run, whether it does or not
 pub data Open : State → Path → Call → Type 0 where
-  open-up : {i a d q s pl k o : ℕ} {u t : Bool} → Open State.CallActive Path.Up (call State.CallActive Path.Up i a d q s pl k o false false false false false u t)
-  open-broken : {i a d q s pl k o : ℕ} {u : Bool} → Open State.CallActive Path.Broken (call State.CallActive Path.Broken i a d q s pl k o false false false false false u false)
-  open-restoring : {i a d q s pl k o : ℕ} {u : Bool} → Open State.CallActive Path.Restoring (call State.CallActive Path.Restoring i a d q s pl k o false false false true false u false)
-  open-wait : {i a d q s pl k o : ℕ} {u : Bool} → Open State.Wait Path.Up (call State.Wait Path.Up i a d q s pl k o false false false false false u false)
+  open-up : {i a d q s pl k o m : ℕ} {u t : Bool} → Open State.CallActive Path.Up (call State.CallActive Path.Up i a d q s pl k o m false false false false false u t)
+  open-broken : {i a d q s pl k o m : ℕ} {u : Bool} → Open State.CallActive Path.Broken (call State.CallActive Path.Broken i a d q s pl k o m false false false false false u false)
+  open-restoring : {i a d q s pl k o m : ℕ} {u : Bool} → Open State.CallActive Path.Restoring (call State.CallActive Path.Restoring i a d q s pl k o m false false false true false u false)
+  open-wait : {i a d q s pl k o m : ℕ} {u : Bool} → Open State.Wait Path.Up (call State.Wait Path.Up i a d q s pl k o m false false false false false u false)

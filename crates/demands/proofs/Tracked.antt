@@ -10,13 +10,13 @@ use lib.Dec.{eqb}
 use Rattle.records.specs.declared.events.Event.{Event}
 use Rattle.records.specs.declared.events.Event.the-variants.{Expiry}
 use Rattle.records.specs.declared.messages.Message.{Message}
-use Rattle.records.specs.declared.messages.Message.the-variants.{UTxCeased, Configure, SetupConfirm, Complete, ReleaseIndication, TxIndication, ModifyIndication}
+use Rattle.records.specs.declared.messages.Message.the-variants.{UTxCeased, Configure, SetupConfirm, Complete, ReleaseIndication, TxIndication}
 use Rattle.callcontrol.specs.declared.call.State.{State}
 use Rattle.callcontrol.specs.declared.call.Path.{Path}
 use Rattle.callcontrol.specs.declared.call.Call.{Call}
 use Rattle.callcontrol.specs.Draft.{Draft}
 use Rattle.callcontrol.specs.Call.{freshCall, runs, T301, T302, T303, T306, T308, T310, T311}
-use Rattle.callcontrol.specs.Draft.{_▷_, draft, go, onPath, storeId, storeCode, storeMode, storeSent, grant, grantOrOff, restart, start, stop, expired, samePlane, plane, off, say, tell, release}
+use Rattle.callcontrol.specs.Draft.{_▷_, draft, go, onPath, storeId, storeCode, storeMode, storeSlots, storeSent, grant, grantOrOff, restart, start, stop, expired, samePlane, plane, off, say, tell, tellModified, release}
 use Rattle.callcontrol.specs.Rows
 use Rattle.callcontrol.specs.Rows.{rowFor}
 use Rattle.callcontrol.specs.Writing.{when, byNumber, starting, messagesIn}
@@ -117,25 +117,25 @@ unanswered : {c : Call} {w : Path} (n : ℕ) → (eqb n 308 && runs c T308) ≡ 
 unanswered n z v = rw (eqb-true n 308 (left _ _ z)) (silent v)
 
 -- rows that start T310 anew, or stop it, whether it runs or not
-same-mode : (c : Call) (r o d : ℕ) → Open State.CallActive Path.Up c → Tracks (c .timers) (draft c ▷ restart r o ▷ samePlane ▷ tell (ModifyIndication d))
+same-mode : (c : Call) (r o d s : ℕ) → Open State.CallActive Path.Up c → Tracks (c .timers) (draft c ▷ restart r o ▷ storeSlots s ▷ samePlane ▷ tellModified d)
 unfolding flagged
-same-mode c r o d (open-up {pl} {u = true} {t}) =
-    by-restart (λ x. Tracks (c .timers) (tell (ModifyIndication d) (samePlane x))) r o (draft c) (by (configured (not (eqb pl 0)) pl _ _ _ refl))
+same-mode c r o d s (open-up {pl} {u = true} {t}) =
+    by-restart (λ x. Tracks (c .timers) (tellModified d (samePlane (storeSlots s x)))) r o (draft c) (by (configured (not (eqb pl 0)) pl _ _ _ refl))
     (by (configured (not (eqb pl 0)) pl _ _ _ refl)) (by (configured (not (eqb pl 0)) pl _ _ _ refl))
-same-mode c r o d (open-up {pl} {u = false} {t}) =
-    by-restart (λ x. Tracks (c .timers) (tell (ModifyIndication d) (samePlane x))) r o (draft c) (by (configured (not (eqb pl 0)) pl _ _ _ refl))
+same-mode c r o d s (open-up {pl} {u = false} {t}) =
+    by-restart (λ x. Tracks (c .timers) (tellModified d (samePlane (storeSlots s x)))) r o (draft c) (by (configured (not (eqb pl 0)) pl _ _ _ refl))
     (by (configured (not (eqb pl 0)) pl _ _ _ refl)) (by (configured (not (eqb pl 0)) pl _ _ _ refl))
 
-new-mode : (c : Call) (r o d : ℕ) → Open State.CallActive Path.Up c → Tracks (c .timers) (draft c ▷ restart r o ▷ storeMode d ▷ off ▷ tell (ModifyIndication d))
+new-mode : (c : Call) (r o d s : ℕ) → Open State.CallActive Path.Up c → Tracks (c .timers) (draft c ▷ restart r o ▷ storeMode d ▷ storeSlots s ▷ off ▷ tellModified d)
 unfolding flagged
-new-mode c r o d (open-up {u = true} {t = true}) =
-    by-restart (λ x. Tracks (c .timers) (tell (ModifyIndication d) (off (storeMode d x)))) r o (draft c) (by refl) (by refl) (by refl)
-new-mode c r o d (open-up {u = true} {t = false}) =
-    by-restart (λ x. Tracks (c .timers) (tell (ModifyIndication d) (off (storeMode d x)))) r o (draft c) (by refl) (by refl) (by refl)
-new-mode c r o d (open-up {u = false} {t = true}) =
-    by-restart (λ x. Tracks (c .timers) (tell (ModifyIndication d) (off (storeMode d x)))) r o (draft c) (by refl) (by refl) (by refl)
-new-mode c r o d (open-up {u = false} {t = false}) =
-    by-restart (λ x. Tracks (c .timers) (tell (ModifyIndication d) (off (storeMode d x)))) r o (draft c) (by refl) (by refl) (by refl)
+new-mode c r o d s (open-up {u = true} {t = true}) =
+    by-restart (λ x. Tracks (c .timers) (tellModified d (off (storeSlots s (storeMode d x))))) r o (draft c) (by refl) (by refl) (by refl)
+new-mode c r o d s (open-up {u = true} {t = false}) =
+    by-restart (λ x. Tracks (c .timers) (tellModified d (off (storeSlots s (storeMode d x))))) r o (draft c) (by refl) (by refl) (by refl)
+new-mode c r o d s (open-up {u = false} {t = true}) =
+    by-restart (λ x. Tracks (c .timers) (tellModified d (off (storeSlots s (storeMode d x))))) r o (draft c) (by refl) (by refl) (by refl)
+new-mode c r o d s (open-up {u = false} {t = false}) =
+    by-restart (λ x. Tracks (c .timers) (tellModified d (off (storeSlots s (storeMode d x))))) r o (draft c) (by refl) (by refl) (by refl)
 
 restored : (c : Call) (g r o : ℕ) → Open State.CallActive Path.Restoring c
     → Tracks (c .timers) (draft c ▷ stop T306 ▷ onPath Path.Up ▷ grant g ▷ restart r o ▷ tell (TxIndication g))
@@ -157,21 +157,21 @@ tracks (Row.releases l) v = shares 0 (few v) .releasing
 tracks (Row.disconnects l i) v = shares i (few v) .disconnected
 tracks (Row.ends l i) v = shares 0 (few v) .released
 tracks (Row.expires l n k t z) v = tracks-lapsed t (shares 0 (few v))
-tracks (Row.calls a d q) idle = by refl
+tracks (Row.calls a d q s) idle = by refl
 tracks (Row.is-called i a d) idle = by refl
 tracks (Row.takes-back z) (mo {t = true} h) = apart z h
 tracks (Row.takes-back z) (mo {t = false} h) = by refl
 tracks (Row.releases-sent z) v = shares 0 (few v) .releasing
 tracks (Row.proceeds i) (mo {t} h) = elim t [ true ↦ by refl | false ↦ by refl ]
 tracks (Row.alerts i) (mo {t} h) = elim t [ true ↦ by refl | false ↦ by refl ]
-tracks {c} (Row.connects i g d o) (mo {t = true} h) =
-    by-start310 (λ x. Tracks with-302 (tell (SetupConfirm i g) (grantOrOff g x))) (draft c ▷ storeId i ▷ storeMode d ▷ storeCode o ▷ storeSent 1 ▷ go State.CallActive ▷ stop T302 ▷ stop T303)
-    (by-grantOrOff (λ x. Tracks with-302 (tell (SetupConfirm i g) x)) g (limitedAs false (draft c ▷ storeId i ▷ storeMode d ▷ storeCode o ▷ storeSent 1 ▷ go State.CallActive ▷ stop T302 ▷ stop T303)) (by refl) (by refl) (by refl) (by refl) (by refl) (by refl) (by refl))
-    (by-grantOrOff (λ x. Tracks with-302 (tell (SetupConfirm i g) x)) g (limitedAs true (draft c ▷ storeId i ▷ storeMode d ▷ storeCode o ▷ storeSent 1 ▷ go State.CallActive ▷ stop T302 ▷ stop T303)) (by refl) (by refl) (by refl) (by refl) (by refl) (by refl) (by refl))
-tracks {c} (Row.connects i g d o) (mo {t = false} h) =
-    by-start310 (λ x. Tracks with-303 (tell (SetupConfirm i g) (grantOrOff g x))) (draft c ▷ storeId i ▷ storeMode d ▷ storeCode o ▷ storeSent 1 ▷ go State.CallActive ▷ stop T302 ▷ stop T303)
-    (by-grantOrOff (λ x. Tracks with-303 (tell (SetupConfirm i g) x)) g (limitedAs false (draft c ▷ storeId i ▷ storeMode d ▷ storeCode o ▷ storeSent 1 ▷ go State.CallActive ▷ stop T302 ▷ stop T303)) (by refl) (by refl) (by refl) (by refl) (by refl) (by refl) (by refl))
-    (by-grantOrOff (λ x. Tracks with-303 (tell (SetupConfirm i g) x)) g (limitedAs true (draft c ▷ storeId i ▷ storeMode d ▷ storeCode o ▷ storeSent 1 ▷ go State.CallActive ▷ stop T302 ▷ stop T303)) (by refl) (by refl) (by refl) (by refl) (by refl) (by refl) (by refl))
+tracks {c} (Row.connects i g d o s) (mo {t = true} h) =
+    by-start310 (λ x. Tracks with-302 (tell (SetupConfirm i g) (grantOrOff g x))) (draft c ▷ storeId i ▷ storeMode d ▷ storeCode o ▷ storeSlots s ▷ storeSent 1 ▷ go State.CallActive ▷ stop T302 ▷ stop T303)
+    (by-grantOrOff (λ x. Tracks with-302 (tell (SetupConfirm i g) x)) g (limitedAs false (draft c ▷ storeId i ▷ storeMode d ▷ storeCode o ▷ storeSlots s ▷ storeSent 1 ▷ go State.CallActive ▷ stop T302 ▷ stop T303)) (by refl) (by refl) (by refl) (by refl) (by refl) (by refl) (by refl))
+    (by-grantOrOff (λ x. Tracks with-302 (tell (SetupConfirm i g) x)) g (limitedAs true (draft c ▷ storeId i ▷ storeMode d ▷ storeCode o ▷ storeSlots s ▷ storeSent 1 ▷ go State.CallActive ▷ stop T302 ▷ stop T303)) (by refl) (by refl) (by refl) (by refl) (by refl) (by refl) (by refl))
+tracks {c} (Row.connects i g d o s) (mo {t = false} h) =
+    by-start310 (λ x. Tracks with-303 (tell (SetupConfirm i g) (grantOrOff g x))) (draft c ▷ storeId i ▷ storeMode d ▷ storeCode o ▷ storeSlots s ▷ storeSent 1 ▷ go State.CallActive ▷ stop T302 ▷ stop T303)
+    (by-grantOrOff (λ x. Tracks with-303 (tell (SetupConfirm i g) x)) g (limitedAs false (draft c ▷ storeId i ▷ storeMode d ▷ storeCode o ▷ storeSlots s ▷ storeSent 1 ▷ go State.CallActive ▷ stop T302 ▷ stop T303)) (by refl) (by refl) (by refl) (by refl) (by refl) (by refl) (by refl))
+    (by-grantOrOff (λ x. Tracks with-303 (tell (SetupConfirm i g) x)) g (limitedAs true (draft c ▷ storeId i ▷ storeMode d ▷ storeCode o ▷ storeSlots s ▷ storeSent 1 ▷ go State.CallActive ▷ stop T302 ▷ stop T303)) (by refl) (by refl) (by refl) (by refl) (by refl) (by refl) (by refl))
 tracks (Row.sent z) (mo {t} h) = elim t [ true ↦ by refl | false ↦ by refl ]
 tracks (Row.unsent z) (mo {t = true} h) = apart z h
 tracks (Row.unsent z) (mo {t = false} h) = by refl
@@ -188,8 +188,8 @@ tracks (Row.asks-to-send k z y) up = by refl
 tracks (Row.stops-sending k z y) (up {t}) = elim t [ true ↦ by refl | false ↦ by refl ]
 tracks (Row.asks-no-more k z y x) up = by refl
 tracks (Row.modifies d) up = by refl
-tracks {c} (Row.same-mode i r o d z) up = same-mode c r o d open-up
-tracks {c} (Row.new-mode i r o d z) up = new-mode c r o d open-up
+tracks {c} (Row.same-mode i r o d s z) up = same-mode c r o d s open-up
+tracks {c} (Row.new-mode i r o d s z) up = new-mode c r o d s open-up
 tracks {c} (Row.granted i g) (up {t = true}) = by-grant (λ x. Tracks (c .timers) (tell (TxIndication g) x)) g (draft c) (by refl) (by refl) (by refl) (by refl) (by refl)
 tracks {c} (Row.granted i g) (up {t = false}) = by-grant (λ x. Tracks (c .timers) (tell (TxIndication g) x)) g (draft c) (by refl) (by refl) (by refl) (by refl) (by refl)
 tracks (Row.ceased i) (up {t}) = elim t [ true ↦ by refl | false ↦ by refl ]

@@ -11,8 +11,10 @@ unfolding computed logIn place noteMessage noteMessages noteExpiry noteLog runni
 witness =
     record {
       lines = refl;
-      cuts = ((refl, refl, refl), ((refl, refl, refl), ((refl, refl, refl), tt)));
+      cuts = ((refl, refl, refl), ((refl, refl, refl), ((refl, refl, refl), ((refl, refl, refl), tt))));
       ends = (refl, (refl, (refl, (refl, (refl, tt)))));
+      tells = (refl, (refl, (refl, (refl, (refl, tt)))));
+      holds = (refl, (refl, (refl, (refl, (refl, (refl, (refl, (refl, tt))))))));
       lowest = refl;
       timers = (refl, (refl, (refl, (refl, (refl, (refl, (refl, (refl, (refl, (refl, (refl, (refl, (refl, tt)))))))))))));
       collides = record { whole = refl; disconnects = refl; releases = refl };

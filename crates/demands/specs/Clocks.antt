@@ -9,7 +9,7 @@ use lib.ListN.{getD, set}
 use Rattle.records.specs.declared.events.Event.{Event}
 use Rattle.records.specs.declared.events.Event.the-variants.{SetupRequest, SetupResponse, ReleaseRequest, TxRequest, ModifyRequest, DCallProceeding, DAlert, DConnect, DConnectAcknowledge, DSetup, DInfo, DTxGranted, DTxCeased, DTxInterrupt, DTxWait, DTxContinue, DCallRestore, DDisconnect, DRelease, ReportSent, ReportFailed, Break, Resume, Expiry}
 use Rattle.records.specs.declared.messages.Message.{Message}
-use Rattle.records.specs.declared.messages.Message.the-variants.{USetup, UConnect, UDisconnect, URelease, UInfo, UTxDemand, UTxCeased, UCallRestore, Stop, Start, Configure, Cancel, Place, SetupIndication, SetupConfirm, Proceed, Alert, Complete, ReleaseIndication, ReleaseConfirm, TxIndication, ModifyIndication}
+use Rattle.records.specs.declared.messages.Message.the-variants.{USetup, UConnect, UDisconnect, URelease, UInfo, UTxDemand, UTxCeased, UCallRestore, Stop, Start, Configure, Cancel, Place, ChannelAnswer, SetupIndication, SetupConfirm, Proceed, Alert, Complete, ReleaseIndication, ReleaseConfirm, TxIndication, ModifyIndication}
 use Rattle.callcontrol.specs.declared.call.Call.{Call}
 use Rattle.callcontrol.specs.Call.{T301, T302, T303, T306, T308, T310, T311}
 use Rattle.demands.specs.Runs.{Turn, next, takenBy, writtenBy}
@@ -31,7 +31,7 @@ place n =
 
 -- START and STOP
 unfoldable pub noteMessage : List Bool → Message → List Bool
-noteMessage f (USetup a d q) = f
+noteMessage f (USetup a d q s) = f
 noteMessage f (UConnect i) = f
 noteMessage f (UDisconnect i c) = f
 noteMessage f (URelease i) = f
@@ -44,6 +44,7 @@ noteMessage f (Start n o) = set f (place n) true
 noteMessage f (Configure p) = f
 noteMessage f Cancel = f
 noteMessage f (Place at) = f
+noteMessage f (ChannelAnswer n v) = f
 noteMessage f (SetupIndication i a d) = f
 noteMessage f (SetupConfirm i g) = f
 noteMessage f Proceed = f
@@ -52,7 +53,7 @@ noteMessage f (Complete g) = f
 noteMessage f (ReleaseIndication c) = f
 noteMessage f ReleaseConfirm = f
 noteMessage f (TxIndication x) = f
-noteMessage f (ModifyIndication d) = f
+noteMessage f (ModifyIndication d s) = f
 
 unfoldable pub noteMessages : List Bool → List Message → List Bool
 noteMessages f [] = f
@@ -60,17 +61,17 @@ noteMessages f (m ∷ ms) = noteMessages (noteMessage f m) ms
 
 -- expiry
 unfoldable pub noteExpiry : List Bool → Event → List Bool
-noteExpiry f (SetupRequest a d q) = f
+noteExpiry f (SetupRequest a d q s) = f
 noteExpiry f SetupResponse = f
 noteExpiry f ReleaseRequest = f
 noteExpiry f (TxRequest k) = f
 noteExpiry f (ModifyRequest d) = f
 noteExpiry f (DCallProceeding i) = f
 noteExpiry f (DAlert i) = f
-noteExpiry f (DConnect i g d o) = f
+noteExpiry f (DConnect i g d o s) = f
 noteExpiry f (DConnectAcknowledge i g o) = f
 noteExpiry f (DSetup i a d) = f
-noteExpiry f (DInfo i r o d) = f
+noteExpiry f (DInfo i r o d s) = f
 noteExpiry f (DTxGranted i g) = f
 noteExpiry f (DTxCeased i) = f
 noteExpiry f (DTxInterrupt i g) = f

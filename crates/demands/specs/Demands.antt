@@ -12,7 +12,7 @@ use Rattle.records.specs.declared.events.Event.the-variants.{SetupRequest, Setu
 use Rattle.records.specs.declared.messages.Message.{Message}
 use Rattle.records.specs.Bytes.{number}
 use Rattle.records.specs.Bodies.{size, numbersAt, allFit}
-use Rattle.records.specs.Tables.{Read, taken, refused, find, read, fine}
+use Rattle.records.specs.Tables.{Read, taken, refused, known, find, read, fine}
 use Rattle.records.specs.Laws.{missing, numbers}
 use Rattle.records.specs.Events.{EventKind, eventRow, events}
 use Rattle.records.specs.Messages.{messages}
@@ -26,7 +26,7 @@ use Rattle.callcontrol.specs.Step.{refusal, refusalAt, stepOf, otherCall, overT
 use Rattle.demands.specs.Runs.{Turn, outcome, next, run, takenBy, takenIn, writtenBy, writtenIn, every?, isUDisconnect, isURelease, told, ends}
 use Rattle.demands.specs.Examples.{turn, setupRequest, dConnect}
 use Rattle.demands.specs.Clocks.{logIn, runningBy, runsBy}
-use Rattle.demands.specs.History.{planeByHistory, idByHistory}
+use Rattle.demands.specs.History.{planeByHistory, idByHistory, slotsByHistory, carryNone}
 
 -- Demand 1: every turn gets an answer; the lowest number that applies; a refusal writes no byte and gives the record back
 
@@ -38,7 +38,7 @@ wrongLength bytes = not (leb 4 (length bytes) && eqb (number 2 bytes 0) (length 
 unfoldable pub noKind : List ℕ → Bool
 noKind bytes = missing (number 2 bytes 2) (numbers events)
 
--- 4: the body has not the size of the kind's letters, or a field is out of its letter's range
+-- 4: no line of the kind's number has the size of the body, or a field is out of its letter's range
 unfoldable pub bodyFits : EventKind → List ℕ → Bool
 bodyFits k bytes =
     eqb (length bytes) (4 + size (eventRow k .letters)) && allFit (eventRow k .letters) (numbersAt (eventRow k .letters) bytes 4)
@@ -48,7 +48,9 @@ ofKind p none = false
 ofKind p (some k) = p k
 
 unfoldable pub badBody : List ℕ → Bool
-badBody bytes = ofKind (λ k. not (bodyFits k bytes)) (find events (number 2 bytes 2) (events .kinds))
+badBody bytes =
+    known events (number 2 bytes 2) (events .kinds)
+    && not (ofKind (λ k. bodyFits k bytes) (find events (number 2 bytes 2) (length bytes) (events .kinds)))
 
 abbrev pub ofEvent : (Event → Bool) → Read Event → Bool
 ofEvent p (taken e) = p e
@@ -201,17 +203,17 @@ Told = (ts : List Turn) → (told ts ≡ planeByHistory (takenIn freshCall ts)) 
 
 abbrev pub restoresIn : ℕ → Option Event → Bool
 restoresIn i none = false
-restoresIn i (some (SetupRequest a d q)) = false
+restoresIn i (some (SetupRequest a d q s)) = false
 restoresIn i (some SetupResponse) = false
 restoresIn i (some ReleaseRequest) = false
 restoresIn i (some (TxRequest k)) = false
 restoresIn i (some (ModifyRequest d)) = false
 restoresIn i (some (DCallProceeding j)) = false
 restoresIn i (some (DAlert j)) = false
-restoresIn i (some (DConnect j g d o)) = false
+restoresIn i (some (DConnect j g d o s)) = false
 restoresIn i (some (DConnectAcknowledge j g o)) = false
 restoresIn i (some (DSetup j a d)) = false
-restoresIn i (some (DInfo j r o d)) = false
+restoresIn i (some (DInfo j r o d s)) = false
 restoresIn i (some (DTxGranted j g)) = false
 restoresIn i (some (DTxCeased j)) = false
 restoresIn i (some (DTxInterrupt j g)) = false
@@ -254,6 +256,7 @@ Restored =
     × (run freshCall (ts ++ t ∷ us ++ v ∷ []) .id ≡ run freshCall ts .id)
     × (run freshCall (ts ++ t ∷ us ++ v ∷ []) .address ≡ run freshCall ts .address)
     × (run freshCall (ts ++ t ∷ us ++ v ∷ []) .mode ≡ run freshCall ts .mode)
+    × (run freshCall (ts ++ t ∷ us ++ v ∷ []) .slots ≡ run freshCall ts .slots)
     × (run freshCall (ts ++ t ∷ us ++ v ∷ []) .code ≡ cond (eqb r 1) (cond (eqb o 16) (run freshCall ts .code) o) (run freshCall ts .code))
     × (runs (run freshCall (ts ++ t ∷ us ++ v ∷ [])) T310 ≡ cond (eqb r 1) (not (eqb (run freshCall (ts ++ t ∷ us ++ v ∷ []) .code) 0)) (runs (run freshCall ts) T310))
     × (run freshCall (ts ++ t ∷ us ++ v ∷ []) .state ≡ State.CallActive)
@@ -272,6 +275,23 @@ abbrev pub NoOtherEnd : Type 0
 NoOtherEnd =
     (ts : List Turn) (t : Turn) →
     isIdle (run freshCall ts) ≡ false → isIdle (run freshCall (ts ++ t ∷ [])) ≡ true → ends (run freshCall ts) t ≡ true
+
+-- and the slots are 1 again
+abbrev pub EndedOneSlot : Type 0
+EndedOneSlot = (ts : List Turn) (t : Turn) → ends (run freshCall ts) t ≡ true → run freshCall (ts ++ t ∷ []) .slots ≡ 1
+
+-- Slots per frame
+
+-- outside IDLE the held number is the one that the last of the taken events of the call to carry some carried, 1 where none did, by the taken events
+-- alone
+abbrev pub Slotted : Type 0
+Slotted = (ts : List Turn) → isIdle (run freshCall ts) ≡ false → run freshCall ts .slots ≡ slotsByHistory (takenIn freshCall ts)
+
+-- a call that no event gave slots has 1: from an IDLE record on, for as long as no taken event carries any
+abbrev pub OneSlot : Type 0
+OneSlot =
+    (ts us : List Turn) →
+    isIdle (run freshCall ts) ≡ true → carryNone (takenIn (run freshCall ts) us) ≡ true → run freshCall (ts ++ us) .slots ≡ 1
 
 -- In the client's words
 

@@ -6,7 +6,7 @@ use mathlib.Core.Option.{Option, none, some}
 use lib.Dec.{eqb}
 use Rattle.records.specs.declared.events.Event.{Event}
 use Rattle.records.specs.declared.messages.Message.{Message}
-use Rattle.records.specs.declared.messages.Message.the-variants.{USetup, UConnect, UDisconnect, URelease, UInfo, UTxDemand, UTxCeased, UCallRestore, Stop, Start, Configure, Cancel, Place, SetupIndication, SetupConfirm, Proceed, Alert, Complete, ReleaseIndication, ReleaseConfirm, TxIndication, ModifyIndication}
+use Rattle.records.specs.declared.messages.Message.the-variants.{USetup, UConnect, UDisconnect, URelease, UInfo, UTxDemand, UTxCeased, UCallRestore, Stop, Start, Configure, Cancel, Place, ChannelAnswer, SetupIndication, SetupConfirm, Proceed, Alert, Complete, ReleaseIndication, ReleaseConfirm, TxIndication, ModifyIndication}
 use Rattle.records.specs.Tables.{Read, taken, refused, read}
 use Rattle.records.specs.Events.{events}
 use Rattle.callcontrol.specs.declared.call.Call.{Call}
@@ -64,7 +64,7 @@ writtenIn c (t ∷ ts) = writtenBy c t ++ writtenIn (next c t) ts
 
 -- the last CONFIGURE among some messages, or what held before
 unfoldable pub toldAfter : ℕ → Message → ℕ
-toldAfter p (USetup a d q) = p
+toldAfter p (USetup a d q s) = p
 toldAfter p (UConnect i) = p
 toldAfter p (UDisconnect i c) = p
 toldAfter p (URelease i) = p
@@ -77,6 +77,7 @@ toldAfter p (Start n o) = p
 toldAfter p (Configure plane) = plane
 toldAfter p Cancel = p
 toldAfter p (Place at) = p
+toldAfter p (ChannelAnswer n v) = p
 toldAfter p (SetupIndication i a d) = p
 toldAfter p (SetupConfirm i g) = p
 toldAfter p Proceed = p
@@ -85,7 +86,7 @@ toldAfter p (Complete g) = p
 toldAfter p (ReleaseIndication c) = p
 toldAfter p ReleaseConfirm = p
 toldAfter p (TxIndication x) = p
-toldAfter p (ModifyIndication d) = p
+toldAfter p (ModifyIndication d s) = p
 
 unfoldable pub lastTold : ℕ → List Message → ℕ
 lastTold p [] = p
@@ -97,7 +98,7 @@ told ts = lastTold 4 (writtenIn freshCall ts)
 
 -- a call has ended when RELEASE confirm, or RELEASE indication 3 or 4, is written
 unfoldable pub endsCall : Message → Bool
-endsCall (USetup a d q) = false
+endsCall (USetup a d q s) = false
 endsCall (UConnect i) = false
 endsCall (UDisconnect i c) = false
 endsCall (URelease i) = false
@@ -110,6 +111,7 @@ endsCall (Start n o) = false
 endsCall (Configure plane) = false
 endsCall Cancel = false
 endsCall (Place at) = false
+endsCall (ChannelAnswer n v) = false
 endsCall (SetupIndication i a d) = false
 endsCall (SetupConfirm i g) = false
 endsCall Proceed = false
@@ -118,7 +120,7 @@ endsCall (Complete g) = false
 endsCall (ReleaseIndication c) = eqb c 3 || eqb c 4
 endsCall ReleaseConfirm = true
 endsCall (TxIndication x) = false
-endsCall (ModifyIndication d) = false
+endsCall (ModifyIndication d s) = false
 
 abbrev pub some? : (Message → Bool) → List Message → Bool
 some? p [] = false
@@ -134,7 +136,7 @@ ends c t = some? endsCall (writtenBy c t)
 
 -- the two PDUs that end a call
 unfoldable pub isUDisconnect : Message → Bool
-isUDisconnect (USetup a d q) = false
+isUDisconnect (USetup a d q s) = false
 isUDisconnect (UConnect i) = false
 isUDisconnect (UDisconnect i c) = true
 isUDisconnect (URelease i) = false
@@ -147,6 +149,7 @@ isUDisconnect (Start n o) = false
 isUDisconnect (Configure plane) = false
 isUDisconnect Cancel = false
 isUDisconnect (Place at) = false
+isUDisconnect (ChannelAnswer n v) = false
 isUDisconnect (SetupIndication i a d) = false
 isUDisconnect (SetupConfirm i g) = false
 isUDisconnect Proceed = false
@@ -155,10 +158,10 @@ isUDisconnect (Complete g) = false
 isUDisconnect (ReleaseIndication c) = false
 isUDisconnect ReleaseConfirm = false
 isUDisconnect (TxIndication x) = false
-isUDisconnect (ModifyIndication d) = false
+isUDisconnect (ModifyIndication d s) = false
 
 unfoldable pub isURelease : Message → Bool
-isURelease (USetup a d q) = false
+isURelease (USetup a d q s) = false
 isURelease (UConnect i) = false
 isURelease (UDisconnect i c) = false
 isURelease (URelease i) = true
@@ -171,6 +174,7 @@ isURelease (Start n o) = false
 isURelease (Configure plane) = false
 isURelease Cancel = false
 isURelease (Place at) = false
+isURelease (ChannelAnswer n v) = false
 isURelease (SetupIndication i a d) = false
 isURelease (SetupConfirm i g) = false
 isURelease Proceed = false
@@ -179,4 +183,4 @@ isURelease (Complete g) = false
 isURelease (ReleaseIndication c) = false
 isURelease ReleaseConfirm = false
 isURelease (TxIndication x) = false
-isURelease (ModifyIndication d) = false
+isURelease (ModifyIndication d s) = false

@@ -10,7 +10,7 @@ use lib.ListN.{getD, take, drop}
 use Rattle.records.specs.declared.events.Event.{Event}
 use Rattle.records.specs.declared.events.Event.the-variants.{DCallRestore, Break}
 use Rattle.records.specs.declared.messages.Message.{Message}
-use Rattle.records.specs.declared.messages.Message.the-variants.{URelease, Stop, Configure, Cancel, ReleaseIndication, ReleaseConfirm}
+use Rattle.records.specs.declared.messages.Message.the-variants.{USetup, URelease, Stop, Start, Configure, Cancel, ReleaseIndication, ReleaseConfirm, ModifyIndication}
 use Rattle.callcontrol.specs.declared.call.Call.{Call}
 use Rattle.callcontrol.specs.Call.{freshCall, stateNumber, pathNumber, _⇒_}
 use Rattle.callcontrol.specs.Step.{Outcome}
@@ -112,6 +112,27 @@ colliding =
     ∷ line (4 ∷ 0 ∷ 2 ∷ 1 ∷ []) 0 2 0 4 false
     ∷ []
 
+-- a call of several slots: they are changed with the mode, kept over a break and its restoration, and changed alone
+abbrev pub slotted : List Line
+slotted =
+    -- SETUP request with 2 slots; D-CONNECT without any, not granted
+    line (11 ∷ 0 ∷ 1 ∷ 1 ∷ 7 ∷ 0 ∷ 0 ∷ 0 ∷ 0 ∷ 0 ∷ 2 ∷ []) 0 1 0 4 false
+    ∷ line (9 ∷ 0 ∷ 3 ∷ 2 ∷ 21 ∷ 0 ∷ 1 ∷ 0 ∷ 3 ∷ []) 0 3 0 4 false
+    -- D-TX GRANTED to another; D-INFO duplex with 4 slots
+    ∷ line (7 ∷ 0 ∷ 7 ∷ 2 ∷ 21 ∷ 0 ∷ 3 ∷ []) 0 3 0 2 false
+    ∷ line (10 ∷ 0 ∷ 6 ∷ 2 ∷ 21 ∷ 0 ∷ 0 ∷ 16 ∷ 1 ∷ 4 ∷ []) 0 3 0 4 false
+    -- BREAK, RESUME, D-CALL RESTORE granted to another
+    ∷ line (4 ∷ 0 ∷ 3 ∷ 3 ∷ []) 0 3 1 4 false
+    ∷ line (4 ∷ 0 ∷ 4 ∷ 3 ∷ []) 0 3 2 4 false
+    ∷ line (9 ∷ 0 ∷ 12 ∷ 2 ∷ 21 ∷ 0 ∷ 3 ∷ 0 ∷ 16 ∷ []) 0 3 0 2 false
+    -- D-INFO duplex with 3 slots: the plane stays; with 5 slots; without any
+    ∷ line (10 ∷ 0 ∷ 6 ∷ 2 ∷ 21 ∷ 0 ∷ 0 ∷ 16 ∷ 1 ∷ 3 ∷ []) 0 3 0 2 false
+    ∷ line (10 ∷ 0 ∷ 6 ∷ 2 ∷ 21 ∷ 0 ∷ 0 ∷ 16 ∷ 1 ∷ 5 ∷ []) 4 3 0 2 false
+    ∷ line (9 ∷ 0 ∷ 6 ∷ 2 ∷ 21 ∷ 0 ∷ 0 ∷ 16 ∷ 1 ∷ []) 0 3 0 2 false
+    -- D-RELEASE
+    ∷ line (6 ∷ 0 ∷ 14 ∷ 2 ∷ 21 ∷ 0 ∷ []) 0 0 0 4 true
+    ∷ []
+
 -- two records are the same, by all their places
 unfoldable pub flags : List Bool → List ℕ
 flags [] = []
@@ -119,7 +140,7 @@ flags (b ∷ bs) = cond b 1 0 ∷ flags bs
 
 unfoldable pub numbers : Call → List ℕ
 numbers c =
-    stateNumber (c .state) ∷ c .id ∷ c .address ∷ c .mode ∷ c .asked ∷ c .sent ∷ pathNumber (c .path) ∷ c .plane ∷ c .kept ∷ c .code ∷ flags (c .timers)
+    stateNumber (c .state) ∷ c .id ∷ c .address ∷ c .mode ∷ c .asked ∷ c .sent ∷ pathNumber (c .path) ∷ c .plane ∷ c .kept ∷ c .code ∷ c .slots ∷ flags (c .timers)
 
 unfoldable pub same : List ℕ → List ℕ → Bool
 same [] [] = true
@@ -146,7 +167,7 @@ goesSo ts (l ∷ ls) =
     && goesSo (ts ++ turn (l .event) ∷ []) ls
 
 abbrev pub stories : List (List Line)
-stories = outgoing ∷ incoming ∷ lost ∷ unsent ∷ takenBack ∷ colliding ∷ []
+stories = outgoing ∷ incoming ∷ lost ∷ unsent ∷ takenBack ∷ colliding ∷ slotted ∷ []
 
 -- one story after the other
 abbrev pub allGoSo : List (List Line) → Bool
@@ -187,13 +208,14 @@ Premises x =
     × (quiet (run freshCall (beforeOf x) .id) (next (run freshCall (beforeOf x)) (breakOf x)) (betweenOf x) ≡ true)
     × (takenBy (run freshCall (beforeOf x ++ breakOf x ∷ betweenOf x)) (restoringOf x) ≡ some (x .restoration))
 
--- the first break of the outgoing call, with another break and two refused turns before the restoration; its second break; and the break
--- in a pause
+-- the first break of the outgoing call, with another break and two refused turns before the restoration; its second break; the break
+-- in a pause; and that of the call of several slots
 abbrev pub cuttings : List Cutting
 cuttings =
     cutting outgoing 3 5 (DCallRestore 21 0 0 16)
     ∷ cutting outgoing 6 2 (DCallRestore 21 0 0 16)
     ∷ cutting incoming 4 1 (DCallRestore 16383 3 1 5)
+    ∷ cutting slotted 4 1 (DCallRestore 21 3 0 16)
     ∷ []
 
 -- of each in a list
@@ -221,6 +243,39 @@ endings =
     ∷ ending lost 5 (Stop 310 ∷ URelease 9 ∷ Configure 4 ∷ ReleaseIndication 3 ∷ [])
     ∷ ending unsent 1 (Stop 303 ∷ ReleaseIndication 4 ∷ [])
     ∷ ending takenBack 1 (Stop 303 ∷ Cancel ∷ ReleaseConfirm ∷ [])
+    ∷ []
+
+-- what tells the slots: U-SETUP where the request carried them, and MODIFY indication, where they change with the mode, alone, and not at all
+abbrev pub tellings : List Ending
+tellings =
+    ending slotted 0 (USetup 7 0 0 2 ∷ Start 303 0 ∷ [])
+    ∷ ending takenBack 0 (USetup 7 0 1 0 ∷ Start 303 0 ∷ [])
+    ∷ ending slotted 3 (Configure 4 ∷ ModifyIndication 1 4 ∷ [])
+    ∷ ending slotted 7 (Configure 2 ∷ ModifyIndication 1 3 ∷ [])
+    ∷ ending slotted 9 (Configure 2 ∷ ModifyIndication 1 3 ∷ [])
+    ∷ []
+
+-- the slots that are held after some turns of a story
+pub record Held : Type 0 where
+  pub turns : List Turn
+  pub slots : ℕ
+
+abbrev pub holding : List Line → ℕ → ℕ → Held
+holding ls n s = record { turns = take n (turnsOf ls); slots = s }
+
+abbrev pub Holds : Held → Type 0
+Holds x = run freshCall (x .turns) .slots ≡ x .slots
+
+abbrev pub slots : List Held
+slots =
+    holding slotted 1 2
+    ∷ holding slotted 2 2
+    ∷ holding slotted 4 4
+    ∷ holding slotted 7 4
+    ∷ holding slotted 8 3
+    ∷ holding slotted 10 3
+    ∷ holding slotted 11 1
+    ∷ holding outgoing 3 1
     ∷ []
 
 -- bytes to which two refusals apply at once; the lower is given
@@ -289,6 +344,8 @@ pub record Witness : Type 0 where
   pub lines : allGoSo stories ≡ true
   pub cuts : Each Premises cuttings
   pub ends : Each Writes endings
+  pub tells : Each Writes tellings
+  pub holds : Each Holds slots
   pub lowest : lowerGiven twices ≡ true
   pub timers : Each Shows clocks
   pub collides : Collides

@@ -21,12 +21,12 @@ pub no-record : (s e b : List ℕ) {is : Bool} → is ≡ isRecord s → not is 
 unfolding hostStep unpacked
 no-record s e b {is} tested other = rw (← tested, not-true is other)
 
--- a record has 21 bytes
-pub record-length : (s : List ℕ) {is : Bool} → is ≡ isRecord s → not is ≡ false → length s ≡ 21
+-- a record has 22 bytes
+pub record-length : (s : List ℕ) {is : Bool} → is ≡ isRecord s → not is ≡ false → length s ≡ 22
 unfolding isRecord
 record-length s {is} tested so =
     let all : isRecord s ≡ true = sym tested ∙ not-false is so in
-    let whole : eqb (length s) 21 ≡ true = search (left, right) depth 20 in
+    let whole : eqb (length s) 22 ≡ true = search (left, right) depth 20 in
     eqb-true _ _ whole
 
 module _

@@ -93,7 +93,7 @@ bytes-number (suc w) at s small =
 
 -- ---- the laws
 
-pub packed-length : (c : Call) → length (packed c) ≡ 21
+pub packed-length : (c : Call) → length (packed c) ≡ 22
 unfolding packed names settings running bytes
 packed-length c = refl
 
@@ -126,7 +126,7 @@ unpacked-is-held c is = let same : some (held (packed c)) ≡ some c = rw (is-re
 pub held-is-packed : HeldIsPacked
 unfolding isRecord held packed names settings running
 held-is-packed s small ok =
-    let whole : eqb (length s) 21 ≡ true = search (left, right) depth 20 in
+    let whole : eqb (length s) 22 ≡ true = search (left, right) depth 20 in
     let state : leb (getD s 0 0) 5 ≡ true = search (left, right) depth 20 in
     let path : leb (getD s 10 0) 2 ≡ true = search (left, right) depth 20 in
     let t301 : leb (getD s 14 0) 1 ≡ true = search (left, right) depth 20 in
@@ -149,4 +149,4 @@ held-is-packed s small ok =
       flag-back (getD s 19 0) (leb-true _ _ t310),
       flag-back (getD s 20 0) (leb-true _ _ t311),
     )
-    (items-drop 21 0 s 0 (eqb-true _ _ whole))
+    (items-drop 22 0 s 0 (eqb-true _ _ whole))

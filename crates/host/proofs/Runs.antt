@@ -23,15 +23,15 @@ use Rattle.host.specs.Runs.{hostRun, after, RunIsPacked, TurnIsStep, Tur
 use Rattle.host.proofs.Packing.{packed-length, sound-is-unpacked}
 use Rattle.host.proofs.Small.{step-small}
 
--- over 21 bytes a packed record leaves none of them
-nothing-left : (s : List ℕ) → length s ≡ 21 → drop 21 s ≡ []
-nothing-left s h = drop-of-length-le s {i = 21} (omega arith)
+-- over 22 bytes a packed record leaves none of them
+nothing-left : (s : List ℕ) → length s ≡ 22 → drop 22 s ≡ []
+nothing-left s h = drop-of-length-le s {i = 22} (omega arith)
 
 append-none : (l : List ℕ) → l ++ [] ≡ l
 append-none [] = refl
 append-none (x ∷ l) = ap (λ r. x ∷ r) (append-none l)
 
-packed-over : (s : List ℕ) (c : Call) → length s ≡ 21 → sets s 0 (packed c) ≡ packed c
+packed-over : (s : List ℕ) (c : Call) → length s ≡ 22 → sets s 0 (packed c) ≡ packed c
 packed-over s c h =
     sets-eq (packed c) s 0 (omega (arith, packed-length c))
     ∙ rw (packed-length c, nothing-left s h, append-none (packed c))
@@ -54,9 +54,9 @@ unfolding hostRun run next outcome
 run-packed c [] k = refl
 run-packed c (t ∷ ts) k = rw (step-packed c t k) (run-packed (next c t) ts (step-keeps-sound c (t .event) (t .buffer) k))
 
-begun : (s : List ℕ) → length s ≡ 21 → freshened s .1 ≡ packed freshCall
+begun : (s : List ℕ) → length s ≡ 22 → freshened s .1 ≡ packed freshCall
 unfolding freshened
-begun s h = rw (eq-eqb (length s) 21 h) (packed-over s freshCall h)
+begun s h = rw (eq-eqb (length s) 22 h) (packed-over s freshCall h)
 
 pub run-is-packed : RunIsPacked
 run-is-packed s ts h = rw (begun s h) (run-packed freshCall ts fresh-is-sound)

@@ -11,7 +11,7 @@ use lib.Seq.{sets}
 use lib.ListN.{length}
 use Rattle.records.specs.declared.events.Event.{Event}
 use Rattle.records.specs.Bodies.{Wrote, wrote, notWritten, size, flatSize, flatBytes, written}
-use Rattle.records.specs.Tables.{Table, Read, taken, refused, find, read, flat, fine, write}
+use Rattle.records.specs.Tables.{Table, Read, taken, refused, sizeOf, find, read, flat, fine, write}
 use Rattle.records.specs.Events.{events}
 use Rattle.records.specs.Laws.{every, Lawful}
 use Rattle.records.proofs.Laws.{length-flatBytes}
@@ -69,15 +69,15 @@ count-small true false n x y h = lit< tt
 count-small false room n x y h = lit< tt
 
 -- a test of every kind holds of the kind that is found
-pub found : (t : Table) (p : t .Kind → Bool) (n : ℕ) (ks : List (t .Kind)) (k : t .Kind) → find t n ks ≡ some k → every p ks ≡ true → p k ≡ true
-found t p n [] k e h = cc
-found t p n (j ∷ ks) k e h = found-here p (eqb n (t .rowOf j .number)) (every p ks) j k (find t n ks) e h (found t p n ks k)
+pub found : (t : Table) (p : t .Kind → Bool) (n z : ℕ) (ks : List (t .Kind)) (k : t .Kind) → find t n z ks ≡ some k → every p ks ≡ true → p k ≡ true
+found t p n z [] k e h = cc
+found t p n z (j ∷ ks) k e h = found-here p (eqb n (t .rowOf j .number) && eqb z (sizeOf t j)) (every p ks) j k (find t n z ks) e h (found t p n z ks k)
 
 module _ (t : Table) (lawful : Lawful t) where
   narrow : (k : t .Kind) → 4 + size (t .rowOf k .letters) < 65536
   narrow k =
       let w : (ltb (t .rowOf k .number) 65536 && ltb (4 + size (t .rowOf k .letters)) 65536) ≡ true =
-      found t _ (t .rowOf k .number) (t .kinds) k (lawful .found k) (lawful .narrow) in
+      found t _ (t .rowOf k .number) (sizeOf t k) (t .kinds) k (lawful .found k) (lawful .narrow) in
       ltb-true _ _ (right (ltb (t .rowOf k .number) 65536) _ w)
 
   pub written-small : {w : Wrote} {after : List ℕ} (v : t .Value) (out : List ℕ) → (w, after) ≡ write t v out → wroteWord w < 2 ^ 32

@@ -17,9 +17,9 @@ use Rattle.host.specs.Packing.{packed, unpacked}
 abbrev pub word : ℕ → ℕ → ℕ → ℕ
 word answer place count = answer * 16777216 + place * 65536 + count
 
--- the fresh record into 21 bytes; 1 for another length
+-- the fresh record into 22 bytes; 1 for another length
 unfoldable pub freshened : List ℕ → ℕ × List ℕ
-freshened s = cond (eqb (length s) 21) (word 0 0 21, sets s 0 (packed freshCall)) (word 1 0 0, s)
+freshened s = cond (eqb (length s) 22) (word 0 0 22, sets s 0 (packed freshCall)) (word 1 0 0, s)
 
 -- what a step leaves: the result, the record's bytes and the lent buffer
 pub record Left : Type 0 where

@@ -1,4 +1,4 @@
-// What a set links: call control on byte slices. A host keeps a call as 21 bytes and hands them in with each event. Every entry returns
+// What a set links: call control on byte slices. A host keeps a call as 22 bytes and hands them in with each event. Every entry returns
 // answer * 2^24 + place * 2^16 + count of bytes written; 4 alone has a place, the reader's.
 ghost use mathlib.Core.Path.{_≡_};
 ghost use mathlib.Core.List.{List};
@@ -59,16 +59,16 @@ fn written_word(written: Written) -> u32
     }
 }
 
-// Writes the fresh record; answer 1 where it has not 21 bytes.
+// Writes the fresh record; answer 1 where it has not 22 bytes.
 #[no_mangle]
 pub extern "C" fn callcontrol_fresh(call: &mut [u8]) -> u32
     ensures { λ r. ⌜ _≡_ {A = ℕ × List ℕ} (r, now (call .exit)) (freshened (now (call .entry))) ⌝ }
 {
-    if call.len() != 21 {
+    if call.len() != 22 {
         return 16777216;
     }
     pack(Call::fresh(), call);
-    21
+    22
 }
 
 // One step: the record goes on and the messages are in out, or nothing is changed.

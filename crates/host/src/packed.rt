@@ -1,4 +1,4 @@
-// A call record as a host's 21 bytes, both ways.
+// A call record as a host's 22 bytes, both ways.
 ghost use mathlib.Core.Path.{_≡_};
 ghost use Prim.Native.Nat.{_+_, _≤_};
 ghost use lib.ListN.{length};
@@ -65,7 +65,7 @@ pub fn long_at(s: &[u8], at: usize) -> u32
 pub fn is_record(s: &[u8]) -> bool
     ensures { λ r. ⌜ r ≡ isRecord (now (s .entry)) ⌝ }
 {
-    if s.len() != 21 {
+    if s.len() != 22 {
         return false;
     }
     if s[0] > 5 {
@@ -97,7 +97,7 @@ pub fn is_record(s: &[u8]) -> bool
 
 // The call that a record's bytes hold.
 pub fn held(s: &[u8]) -> Call
-    requires { ⌜ length (now s) ≡ 21 ⌝ }
+    requires { ⌜ length (now s) ≡ 22 ⌝ }
     ensures { λ r. ⌜ r ≡ held (now (s .entry)) ⌝ }
 {
     let state = state_is(s[0]);
@@ -122,6 +122,7 @@ pub fn held(s: &[u8]) -> Call
         plane: s[11],
         kept: s[12],
         code: s[13],
+        slots: s[21],
         timers,
     }
 }
@@ -132,10 +133,10 @@ pub fn flag(b: bool) -> u8
     if b { 1 } else { 0 }
 }
 
-// Seven bytes each: which call it is, how it stands, and the timers.
+// Seven bytes each: which call it is, and how it stands; then the timers, and behind them the slots.
 
 fn put_names(call: Call, s: &mut [u8])
-    requires { ⌜ length (now s) ≡ 21 ⌝ }
+    requires { ⌜ length (now s) ≡ 22 ⌝ }
     ensures { λ _. ⌜ now (s .exit) ≡ sets (now (s .entry)) 0 (names call) ⌝ }
 {
     let state = call.state;
@@ -151,7 +152,7 @@ fn put_names(call: Call, s: &mut [u8])
 }
 
 fn put_settings(call: Call, s: &mut [u8])
-    requires { ⌜ length (now s) ≡ 21 ⌝ }
+    requires { ⌜ length (now s) ≡ 22 ⌝ }
     ensures { λ _. ⌜ now (s .exit) ≡ sets (now (s .entry)) 7 (settings call) ⌝ }
 {
     let path = call.path;
@@ -165,7 +166,7 @@ fn put_settings(call: Call, s: &mut [u8])
 }
 
 fn put_running(call: Call, s: &mut [u8])
-    requires { ⌜ length (now s) ≡ 21 ⌝ }
+    requires { ⌜ length (now s) ≡ 22 ⌝ }
     ensures { λ _. ⌜ now (s .exit) ≡ sets (now (s .entry)) 14 (running call) ⌝ }
 {
     let t = call.timers;
@@ -176,11 +177,12 @@ fn put_running(call: Call, s: &mut [u8])
     s[18] = flag(t[T308]);
     s[19] = flag(t[T310]);
     s[20] = flag(t[T311]);
+    s[21] = call.slots;
 }
 
 // A call into a record's bytes.
 pub fn pack(call: Call, s: &mut [u8])
-    requires { ⌜ length (now s) ≡ 21 ⌝ }
+    requires { ⌜ length (now s) ≡ 22 ⌝ }
     ensures { λ _. ⌜ now (s .exit) ≡ sets (now (s .entry)) 0 (packed call) ⌝ }
 {
     put_names(call, s);

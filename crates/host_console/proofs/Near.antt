@@ -12,7 +12,7 @@ use Rattle.records.specs.declared.events.Event.{Event}
 use Rattle.records.specs.Bytes.{number}
 use Rattle.records.specs.Letters.{Letter, width, fits}
 use Rattle.records.specs.Bodies.{Found, is, badAt, andThen, valueAt, valuesAt, kindIn, bodyOf, size}
-use Rattle.records.specs.Tables.{Read, taken, refused, orRefuse, orPlace, find, read, readAs, readBody}
+use Rattle.records.specs.Tables.{Read, taken, refused, orRefuse, orPlace, sized, known, find, read, readAmong, readAs, readBody}
 use Rattle.records.specs.Events.{events}
 use Rattle.callcontrol.specs.declared.call.Call.{Call}
 use Rattle.callcontrol.specs.Step.{Outcome, decided}
@@ -55,22 +55,31 @@ place-near : {A B : Type 0} (o : Found A) (f : A → Read B) → Within 255 o �
 place-near (is a) f w g = g a
 place-near (badAt p) f w g = w
 
+known-near : {A : Type 0} (b : Bool) (r : Read A) → Near r → Near (cond b r (refused 3 0))
+known-near true r h = h
+known-near false r h = lit≤ tt
+
+sized-near : {A B : Type 0} (o : Option A) (f : A → Read B) → ((a : A) → o ≡ some a → Near (f a)) → Near (orPlace (sized o) f)
+sized-near Option.none f g = lit≤ tt
+sized-near (some a) f g = g a refl
+
 test-near : {A : Type 0} (b : Bool) (v : A) → Near (cond b (taken v) (refused 4 0))
 test-near true v = tt
 test-near false v = lit≤ tt
 
 reader-near : (s : List ℕ) → Near (read events s)
-unfolding read readAs readBody bodyOf
+unfolding read readAs readAmong readBody bodyOf
 reader-near s =
     or-near 2 (kindIn s) _
-    (λ n e. or-near 3 (find events n (events .kinds)) _
+    (λ n e. known-near (known events n (events .kinds)) _
+    (sized-near (find events n (length s) (events .kinds)) _
     (λ k f.
     let row = events .rowOf k .letters in
-    let short : leb (4 + size row) 255 ≡ true = found events (λ k. leb (4 + size (events .rowOf k .letters)) 255) n (events .kinds) k f refl in
+    let short : leb (4 + size row) 255 ≡ true = found events (λ k. leb (4 + size (events .rowOf k .letters)) 255) n (length s) (events .kinds) k f refl in
     let small : 4 + size row ≤ 255 = leb-true (4 + size row) 255 short in
     place-near (cond (eqb (length s) (4 + size row)) (valuesAt row s 4) (badAt 2)) _
     (test-within 255 2 (eqb (length s) (4 + size row)) (valuesAt row s 4) (lit≤ tt) (values-within row s 4 255 (omega arith)))
-    (λ vs. test-near (events .agrees (events .valueOf k vs)) (events .valueOf k vs))))
+    (λ vs. test-near (events .agrees (events .valueOf k vs)) (events .valueOf k vs)))))
 
 read-near : (s : List ℕ) {n p : ℕ} → read events s ≡ refused n p → p ≤ 255
 read-near s h = rw h at (reader-near s)

@@ -1,4 +1,4 @@
--- Eight records that are packed into 168 bytes are held as they were, and what a table holds is packed as the same bytes: the parts stand one
+-- Eight records that are packed into 176 bytes are held as they were, and what a table holds is packed as the same bytes: the parts stand one
 -- after the other, and nothing is left of what they are packed over.
 use Prim.Native.Nat.{ℕ, zero, suc, _+_, _*_, _≤_, _<_}
 use mathlib.Core.Path.{_≡_, refl, sym, _∙_, ap}
@@ -27,15 +27,15 @@ abbrev pub joined : List Call → List ℕ
 joined [] = []
 joined (c ∷ cs) = packed c ++ joined cs
 
-joined-at : (cs : List Call) (k : ℕ) → k < length cs → recordAt (k * 21) (joined cs) ≡ packed (callAt cs k)
+joined-at : (cs : List Call) (k : ℕ) → k < length cs → recordAt (k * 22) (joined cs) ≡ packed (callAt cs k)
 joined-at [] k lt = absurd (omega arith)
-joined-at (c ∷ cs) zero lt = take-at (packed c) (joined cs) 21 (packed-length c)
+joined-at (c ∷ cs) zero lt = take-at (packed c) (joined cs) 22 (packed-length c)
 joined-at (c ∷ cs) (suc k) lt =
     let l = packed c ++ joined cs in
-    let on : suc k * 21 ≡ 21 + k * 21 = omega arith in
-    ap (λ (n : ℕ). take 21 (drop n l)) on
-    ∙ ap (λ (z : List ℕ). take 21 z) (sym (drop-drop (k * 21) 21 l))
-    ∙ ap (λ (z : List ℕ). take 21 (drop (k * 21) z)) (drop-at (packed c) (joined cs) 21 (packed-length c))
+    let on : suc k * 22 ≡ 22 + k * 22 = omega arith in
+    ap (λ (n : ℕ). take 22 (drop n l)) on
+    ∙ ap (λ (z : List ℕ). take 22 z) (sym (drop-drop (k * 22) 22 l))
+    ∙ ap (λ (z : List ℕ). take 22 (drop (k * 22) z)) (drop-at (packed c) (joined cs) 22 (packed-length c))
     ∙ joined-at cs k (omega arith)
 
 -- the eight records that are packed of a list
@@ -47,7 +47,7 @@ record Filled (x : List ℕ) (at : ℕ) (s t : List ℕ) : Type 0 where
   bytes : t ≡ x ++ drop at s
   size : length x ≡ at
 
-fill : {x s t : List ℕ} {at : ℕ} (c : Call) → at + 21 ≤ length s → Filled x at s t → Filled (x ++ packed c) (at + 21) s (packedAt at c t)
+fill : {x s t : List ℕ} {at : ℕ} (c : Call) → at + 22 ≤ length s → Filled x at s t → Filled (x ++ packed c) (at + 22) s (packedAt at c t)
 fill {x} {s} {t} {at} c room f =
     let n = packed-length c in
     let m = f .size in
@@ -55,11 +55,11 @@ fill {x} {s} {t} {at} c room f =
     let rest = length-drop at s in
     let v = packed c in
     let l = x ++ drop at s in
-    let behind : drop (at + length v) l ≡ drop (at + 21) s =
+    let behind : drop (at + length v) l ≡ drop (at + 22) s =
     ap (λ (z : ℕ). drop (at + z) l) n
-    ∙ sym (drop-drop 21 at l)
-    ∙ ap (λ (z : List ℕ). drop 21 z) (drop-at x (drop at s) at m)
-    ∙ drop-drop 21 at s in
+    ∙ sym (drop-drop 22 at l)
+    ∙ ap (λ (z : List ℕ). drop 22 z) (drop-at x (drop at s) at m)
+    ∙ drop-drop 22 at s in
     record {
       bytes =
           ap (λ (z : List ℕ). sets z at v) (f .bytes)
@@ -69,7 +69,7 @@ fill {x} {s} {t} {at} c room f =
       size = length-append x v ∙ omega arith;
     }
 
-module _ (calls : List Call) (s : List ℕ) (h : length s ≡ 168) where
+module _ (calls : List Call) (s : List ℕ) (h : length s ≡ 176) where
   pub parts : packedInto calls s ≡ joined (eight calls)
   unfolding packedInto
   parts =
@@ -82,17 +82,17 @@ module _ (calls : List Call) (s : List ℕ) (h : length s ≡ 168) where
       let f6 = fill (callAt calls 5) (omega arith) f5 in
       let f7 = fill (callAt calls 6) (omega arith) f6 in
       let f8 = fill (callAt calls 7) (omega arith) f7 in
-      f8 .bytes ∙ rw (drop-of-length-le s {i = 168} (omega arith)) (simp (append-assoc, append-nil))
+      f8 .bytes ∙ rw (drop-of-length-le s {i = 176} (omega arith)) (simp (append-assoc, append-nil))
 
-  pub part-at : (k : ℕ) → k < 8 → recordAt (k * 21) (packedInto calls s) ≡ packed (callAt (eight calls) k)
+  pub part-at : (k : ℕ) → k < 8 → recordAt (k * 22) (packedInto calls s) ≡ packed (callAt (eight calls) k)
   part-at k lt = rw parts (joined-at (eight calls) k lt)
 
-  pub into-length : length (packedInto calls s) ≡ 168
+  pub into-length : length (packedInto calls s) ≡ 176
   unfolding packedInto
   into-length = simp length-sets h
 
 -- nothing is left of what is packed over
-pub over-any : (calls : List Call) (s t : List ℕ) → length s ≡ 168 → length t ≡ 168 → packedInto calls s ≡ packedInto calls t
+pub over-any : (calls : List Call) (s t : List ℕ) → length s ≡ 176 → length t ≡ 176 → packedInto calls s ≡ packedInto calls t
 over-any calls s t h k = parts calls s h ∙ sym (parts calls t k)
 
 -- ---- there
@@ -114,7 +114,7 @@ packed-is-table calls s h =
     )
     (simp is-record)
 
-pub holds : (calls : List Call) (s : List ℕ) → length s ≡ 168 → length calls ≡ 8
+pub holds : (calls : List Call) (s : List ℕ) → length s ≡ 176 → length calls ≡ 8
     → ((k : ℕ) → k < 8 → unpacked (packed (callAt calls k)) ≡ some (callAt calls k)) → heldTable (packedInto calls s) ≡ calls
 unfolding heldTable
 holds calls s h n each =
@@ -150,19 +150,19 @@ sound-table-is-held calls s h ok sevens =
 -- ---- and back
 
 module _ (s : List ℕ) (small : (i : ℕ) → getD s i 0 < 256) where
-  part-length : (at : ℕ) → at + 21 ≤ length s → length (recordAt at s) ≡ 21
-  part-length at room = length-take-le 21 (drop at s) (rw (length-drop at s) (omega arith))
+  part-length : (at : ℕ) → at + 22 ≤ length s → length (recordAt at s) ≡ 22
+  part-length at room = length-take-le 22 (drop at s) (rw (length-drop at s) (omega arith))
 
-  part-small : (at : ℕ) → at + 21 ≤ length s → (i : ℕ) → getD (recordAt at s) i 0 < 256
+  part-small : (at : ℕ) → at + 22 ≤ length s → (i : ℕ) → getD (recordAt at s) i 0 < 256
   part-small at room i =
-      by-test (ltb i 21) (λ b. rw (getD-take 21 (drop at s) i 0 (ltb-true i 21 b), getD-drop at s i 0) (small (at + i)))
+      by-test (ltb i 22) (λ b. rw (getD-take 22 (drop at s) i 0 (ltb-true i 22 b), getD-drop at s i 0) (small (at + i)))
       (λ b.
       let n = part-length at room in
-      let l = ltb-false i 21 b in
+      let l = ltb-false i 22 b in
       rw (List·getD-eq-default (recordAt at s) 0 {n = i} (omega arith)) (lit< tt))
 
   -- what a part holds, packed over it, leaves the bytes
-  stays : (at : ℕ) → at + 21 ≤ length s → isRecord (recordAt at s) ≡ true → packedAt at (held (recordAt at s)) s ≡ s
+  stays : (at : ℕ) → at + 22 ≤ length s → isRecord (recordAt at s) ≡ true → packedAt at (held (recordAt at s)) s ≡ s
   stays at room is =
       let v = recordAt at s in
       let same : packed (held v) ≡ v = held-is-packed v (part-small at room) is in
@@ -171,8 +171,8 @@ module _ (s : List ℕ) (small : (i : ℕ) → getD s i 0 < 256) where
       ∙ sets-eq v s at (omega arith)
       ∙ append-assoc (take at s) v (drop (at + length v) s)
       ∙ ap (λ (z : ℕ). take at s ++ (v ++ drop (at + z) s)) n
-      ∙ ap (λ (z : List ℕ). take at s ++ (v ++ z)) (sym (drop-drop 21 at s))
-      ∙ ap (λ (z : List ℕ). take at s ++ z) (take-append-drop 21 (drop at s))
+      ∙ ap (λ (z : List ℕ). take at s ++ (v ++ z)) (sym (drop-drop 22 at s))
+      ∙ ap (λ (z : List ℕ). take at s ++ z) (take-append-drop 22 (drop at s))
       ∙ take-append-drop at s
 
 pub held-table-is-packed : HeldTableIsPacked
@@ -180,21 +180,21 @@ unfolding isTable heldTable packedInto
 held-table-is-packed s over small ok n =
     let h = table-length s (sym ok) refl in
     let p0 : isRecord (recordAt 0 s) ≡ true = search (left, right) depth 20 in
-    let p1 : isRecord (recordAt 21 s) ≡ true = search (left, right) depth 20 in
-    let p2 : isRecord (recordAt 42 s) ≡ true = search (left, right) depth 20 in
-    let p3 : isRecord (recordAt 63 s) ≡ true = search (left, right) depth 20 in
-    let p4 : isRecord (recordAt 84 s) ≡ true = search (left, right) depth 20 in
-    let p5 : isRecord (recordAt 105 s) ≡ true = search (left, right) depth 20 in
-    let p6 : isRecord (recordAt 126 s) ≡ true = search (left, right) depth 20 in
-    let p7 : isRecord (recordAt 147 s) ≡ true = search (left, right) depth 20 in
+    let p1 : isRecord (recordAt 22 s) ≡ true = search (left, right) depth 20 in
+    let p2 : isRecord (recordAt 44 s) ≡ true = search (left, right) depth 20 in
+    let p3 : isRecord (recordAt 66 s) ≡ true = search (left, right) depth 20 in
+    let p4 : isRecord (recordAt 88 s) ≡ true = search (left, right) depth 20 in
+    let p5 : isRecord (recordAt 110 s) ≡ true = search (left, right) depth 20 in
+    let p6 : isRecord (recordAt 132 s) ≡ true = search (left, right) depth 20 in
+    let p7 : isRecord (recordAt 154 s) ≡ true = search (left, right) depth 20 in
     over-any (heldTable s) over s n h
     ∙ rw (
       stays s small 0 (omega arith) p0,
-      stays s small 21 (omega arith) p1,
-      stays s small 42 (omega arith) p2,
-      stays s small 63 (omega arith) p3,
-      stays s small 84 (omega arith) p4,
-      stays s small 105 (omega arith) p5,
-      stays s small 126 (omega arith) p6,
-      stays s small 147 (omega arith) p7,
+      stays s small 22 (omega arith) p1,
+      stays s small 44 (omega arith) p2,
+      stays s small 66 (omega arith) p3,
+      stays s small 88 (omega arith) p4,
+      stays s small 110 (omega arith) p5,
+      stays s small 132 (omega arith) p6,
+      stays s small 154 (omega arith) p7,
     )

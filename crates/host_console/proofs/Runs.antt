@@ -27,7 +27,7 @@ use Rattle.host_console.proofs.Packing.{part-at, into-length, over-any,
 
 -- ---- one turn over the bytes of eight records that a run can have
 
-module _ (calls : List Call) (s : List ℕ) (t : ConsoleTurn) (h : length s ≡ 168) (g : Good calls) where
+module _ (calls : List Call) (s : List ℕ) (t : ConsoleTurn) (h : length s ≡ 176) (g : Good calls) where
   turn-packed : tableTurn (packedInto calls s) t ≡ consoleLeft (packedInto calls s) (consoleOutcome calls t)
   unfolding consoleHostStep consoleOutcome
   turn-packed =
@@ -48,14 +48,14 @@ module _ (calls : List Call) (s : List ℕ) (t : ConsoleTurn) (h : length s ≡ 
 
 -- ---- a run
 
-run-packed : (calls : List Call) (s : List ℕ) (ts : List ConsoleTurn) → length s ≡ 168 → Good calls → tableRun (packedInto calls s) ts ≡ packedInto (consoleRun calls ts) s
+run-packed : (calls : List Call) (s : List ℕ) (ts : List ConsoleTurn) → length s ≡ 176 → Good calls → tableRun (packedInto calls s) ts ≡ packedInto (consoleRun calls ts) s
 unfolding tableRun consoleRun
 run-packed calls s [] h g = refl
 run-packed calls s (t ∷ ts) h g = rw (bytes-packed calls s t h g) (run-packed (consoleNext calls t) s ts h (good-next calls t g))
 
-begun : (s : List ℕ) → length s ≡ 168 → consoleFreshened s .1 ≡ packedInto freshTable s
+begun : (s : List ℕ) → length s ≡ 176 → consoleFreshened s .1 ≡ packedInto freshTable s
 unfolding consoleFreshened
-begun s h = rw (eq-eqb (length s) 168 h)
+begun s h = rw (eq-eqb (length s) 176 h)
 
 pub table-is-packed : TableIsPacked
 table-is-packed s ts h = rw (begun s h) (run-packed freshTable s ts h good-fresh)

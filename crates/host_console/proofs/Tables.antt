@@ -21,55 +21,55 @@ use Rattle.host_console.specs.Table.{recordAt, isTable, heldTable, packe
 
 -- ---- a record into its part of the table
 
--- 21 bytes over 21 bytes leave the new ones
-whole-part : (l v : List ℕ) → length l ≡ 21 → length v ≡ 21 → sets l 0 v ≡ v
+-- 22 bytes over 22 bytes leave the new ones
+whole-part : (l v : List ℕ) → length l ≡ 22 → length v ≡ 22 → sets l 0 v ≡ v
 whole-part l v old new =
     let none : drop (0 + length v) l ≡ [] = drop-of-length-le l {i = 0 + length v} (omega arith) in
     sets-eq v l 0 (omega arith) ∙ ap (λ (z : List ℕ). take 0 l ++ v ++ z) none ∙ append-nil v
 
-packed-part : (s : List ℕ) (at : ℕ) (c : Call) → at + 21 ≤ length s → putMid at 21 s (sets (take 21 (drop at s)) 0 (packed c)) ≡ packedAt at c s
+packed-part : (s : List ℕ) (at : ℕ) (c : Call) → at + 22 ≤ length s → putMid at 22 s (sets (take 22 (drop at s)) 0 (packed c)) ≡ packedAt at c s
 packed-part s at c room =
     let v = packed c in
     let n = packed-length c in
-    let part : length (take 21 (drop at s)) ≡ 21 = length-take-le 21 (drop at s) (rw (length-drop at s) (omega arith)) in
-    ap (λ (z : List ℕ). take at s ++ (z ++ drop 21 (drop at s))) (whole-part (take 21 (drop at s)) v part n)
-    ∙ ap (λ (z : List ℕ). take at s ++ (v ++ z)) (drop-drop 21 at s ∙ ap (λ (m : ℕ). drop (at + m) s) (sym n))
+    let part : length (take 22 (drop at s)) ≡ 22 = length-take-le 22 (drop at s) (rw (length-drop at s) (omega arith)) in
+    ap (λ (z : List ℕ). take at s ++ (z ++ drop 22 (drop at s))) (whole-part (take 22 (drop at s)) v part n)
+    ∙ ap (λ (z : List ℕ). take at s ++ (v ++ z)) (drop-drop 22 at s ∙ ap (λ (m : ℕ). drop (at + m) s) (sym n))
     ∙ sym (append-assoc (take at s) v (drop (at + length v) s))
     ∙ sym (sets-eq v s at (omega arith))
 
 -- the bytes of a part, as the code takes them
 abbrev pub partOf : ℕ → List ℕ → List ℕ
-partOf k s = take (21 * k + 21 - 21 * k) (drop (21 * k) s)
+partOf k s = take (22 * k + 22 - 22 * k) (drop (22 * k) s)
 
-part-size : (k : ℕ) → 21 * k + 21 - 21 * k ≡ 21
+part-size : (k : ℕ) → 22 * k + 22 - 22 * k ≡ 22
 part-size k = omega arith
 
-part-is : (k : ℕ) (s : List ℕ) → partOf k s ≡ recordAt (21 * k) s
-part-is k s = ap (λ (n : ℕ). take n (drop (21 * k) s)) (part-size k)
+part-is : (k : ℕ) (s : List ℕ) → partOf k s ≡ recordAt (22 * k) s
+part-is k s = ap (λ (n : ℕ). take n (drop (22 * k) s)) (part-size k)
 
 -- the first parts are packed
 abbrev pub packedFirst : ℕ → List Call → List ℕ → List ℕ
 packedFirst zero calls s = s
-packedFirst (suc k) calls s = packedAt (21 * k) (callAt calls k) (packedFirst k calls s)
+packedFirst (suc k) calls s = packedAt (22 * k) (callAt calls k) (packedFirst k calls s)
 
 pub record Packing (calls : List Call) (s : List ℕ) (k : ℕ) (t : List ℕ) : Type 0 where
   pub bytes : t ≡ packedFirst k calls s
-  pub size : length t ≡ 168
+  pub size : length t ≡ 176
 
 pub pack-next : (calls : List Call) (s : List ℕ) (k : ℕ) {t y : List ℕ} → Packing calls s k t → k < 8 → y ≡ sets (partOf k t) 0 (packed (callAt calls k))
-    → Packing calls s (k + 1) (putMid (21 * k) (21 * k + 21 - 21 * k) t y)
+    → Packing calls s (k + 1) (putMid (22 * k) (22 * k + 22 - 22 * k) t y)
 pack-next calls s k {t} {y} p lt is =
     let c = callAt calls k in
     let eight = p .size in
-    let part : putMid (21 * k) (21 * k + 21 - 21 * k) t y ≡ packedAt (21 * k) c t =
-    ap (λ (z : List ℕ). putMid (21 * k) (21 * k + 21 - 21 * k) t z) is
-    ∙ ap (λ (n : ℕ). putMid (21 * k) n t (sets (take n (drop (21 * k) t)) 0 (packed c))) (part-size k)
-    ∙ packed-part t (21 * k) c (omega arith) in
+    let part : putMid (22 * k) (22 * k + 22 - 22 * k) t y ≡ packedAt (22 * k) c t =
+    ap (λ (z : List ℕ). putMid (22 * k) (22 * k + 22 - 22 * k) t z) is
+    ∙ ap (λ (n : ℕ). putMid (22 * k) n t (sets (take n (drop (22 * k) t)) 0 (packed c))) (part-size k)
+    ∙ packed-part t (22 * k) c (omega arith) in
     record {
       bytes =
-          part ∙ ap (λ (z : List ℕ). packedAt (21 * k) c z) (p .bytes)
+          part ∙ ap (λ (z : List ℕ). packedAt (22 * k) c z) (p .bytes)
           ∙ sym (ap (λ (n : ℕ). packedFirst n calls s) (add-one k));
-      size = ap length part ∙ length-sets t (21 * k) (packed c) ∙ eight;
+      size = ap length part ∙ length-sets t (22 * k) (packed c) ∙ eight;
     }
 
 pub all-packed : (calls : List Call) (s : List ℕ) (k : ℕ) {t : List ℕ} → Packing calls s k t → k ≡ 8 → t ≡ packedInto calls s
@@ -81,7 +81,7 @@ all-packed calls s k p all = p .bytes ∙ ap (λ (n : ℕ). packedFirst n calls 
 -- the first parts are held, where the others are fresh still
 abbrev pub heldFirst : ℕ → List ℕ → List Call
 heldFirst zero s = freshTable
-heldFirst (suc k) s = set (heldFirst k s) k (held (recordAt (21 * k) s))
+heldFirst (suc k) s = set (heldFirst k s) k (held (recordAt (22 * k) s))
 
 pub hold-next : (s : List ℕ) (k : ℕ) {calls : List Call} {c : Call} → calls ≡ heldFirst k s → c ≡ held (partOf k s) → set calls k c ≡ heldFirst (k + 1) s
 hold-next s k before is =
@@ -94,10 +94,10 @@ all-held s k before all = before ∙ ap (λ (n : ℕ). heldFirst n s) all
 
 -- ---- whether the parts are records
 
--- 168 bytes, and the first parts are records
+-- 176 bytes, and the first parts are records
 abbrev pub firstAre : ℕ → List ℕ → Bool
-firstAre zero s = eqb (length s) 168
-firstAre (suc k) s = firstAre k s && isRecord (recordAt (21 * k) s)
+firstAre zero s = eqb (length s) 176
+firstAre (suc k) s = firstAre k s && isRecord (recordAt (22 * k) s)
 
 first-more : (s : List ℕ) (k : ℕ) {b : Bool} → b ≡ isRecord (partOf k s) → firstAre (k + 1) s ≡ (firstAre k s && b)
 first-more s k is =
@@ -110,7 +110,7 @@ first-other s k zero m is other = let n : m ≡ k = omega arith in ap (λ (x : �
 first-other s k (suc d) m is other =
     let n : m ≡ suc (k + d) = omega arith in
     ap (λ (x : ℕ). firstAre x s) n
-    ∙ ap (λ (x : Bool). x && isRecord (recordAt (21 * (k + d)) s)) (first-other s k d (k + d) refl other)
+    ∙ ap (λ (x : Bool). x && isRecord (recordAt (22 * (k + d)) s)) (first-other s k d (k + d) refl other)
 
 pub other-part : (s : List ℕ) (k : ℕ) {b : Bool} → k < 8 → b ≡ isRecord (partOf k s) → not b ≡ true → false ≡ isTable s
 unfolding isTable
@@ -134,12 +134,12 @@ pub no-table : (s : List ℕ) (place : ℕ) (e b : List ℕ) {is : Bool} → is 
 unfolding consoleHostStep
 no-table s place e b {is} tested other = rw (← tested, not-true is other)
 
--- a table has 168 bytes
-pub table-length : (s : List ℕ) {is : Bool} → is ≡ isTable s → not is ≡ false → length s ≡ 168
+-- a table has 176 bytes
+pub table-length : (s : List ℕ) {is : Bool} → is ≡ isTable s → not is ≡ false → length s ≡ 176
 unfolding isTable
 table-length s {is} tested so =
     let all : isTable s ≡ true = sym tested ∙ not-false is so in
-    let whole : eqb (length s) 168 ≡ true = search (left, right) depth 20 in
+    let whole : eqb (length s) 176 ≡ true = search (left, right) depth 20 in
     eqb-true _ _ whole
 
 module _

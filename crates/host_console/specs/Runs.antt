@@ -1,4 +1,4 @@
--- A run as a console host makes it: callcontrol_console_fresh once, then callcontrol_console_step again and again over the same 168 bytes. It is
+-- A run as a console host makes it: callcontrol_console_fresh once, then callcontrol_console_step again and again over the same 176 bytes. It is
 -- the run of the console over the eight records that the bytes hold, so that what is proved of every run of it is said of what a host calls.
 use Prim.Native.Nat.{ℕ, _*_, _/_, _%_, _≤_, _<_}
 use mathlib.Core.Path.{_≡_}
@@ -25,7 +25,7 @@ unfoldable pub tableRun : List ℕ → List ConsoleTurn → List ℕ
 tableRun s [] = s
 tableRun s (t ∷ ts) = tableRun (tableTurn s t .table) ts
 
--- from eight fresh records on, whatever stood in the 168 bytes
+-- from eight fresh records on, whatever stood in the 176 bytes
 abbrev pub tableAfter : List ℕ → List ConsoleTurn → List ℕ
 tableAfter s ts = tableRun (consoleFreshened s .1) ts
 
@@ -35,24 +35,24 @@ answered ts t = consoleOutcome (consoleRun freshTable ts) t
 
 -- the bytes are those of the run's eight records
 abbrev pub TableIsPacked : Type 0
-TableIsPacked = (s : List ℕ) (ts : List ConsoleTurn) → length s ≡ 168 → tableAfter s ts ≡ packedInto (consoleRun freshTable ts) s
+TableIsPacked = (s : List ℕ) (ts : List ConsoleTurn) → length s ≡ 176 → tableAfter s ts ≡ packedInto (consoleRun freshTable ts) s
 
 -- and each part is the record of the step's own run over the turns that went to its place
 abbrev pub PlaceIsPacked : Type 0
 PlaceIsPacked =
-    (s : List ℕ) (ts : List ConsoleTurn) (k : ℕ) → length s ≡ 168 → k < 8 → recordAt (k * 21) (tableAfter s ts) ≡ packed (run freshCall (turnsAt k ts))
+    (s : List ℕ) (ts : List ConsoleTurn) (k : ℕ) → length s ≡ 176 → k < 8 → recordAt (k * 22) (tableAfter s ts) ≡ packed (run freshCall (turnsAt k ts))
 
 -- one more turn gives the result, the bytes and the buffer of the console on the run's records
 abbrev pub TurnIsConsole : Type 0
 TurnIsConsole =
     (s : List ℕ) (ts : List ConsoleTurn) (t : ConsoleTurn) →
-    length s ≡ 168 → tableTurn (tableAfter s ts) t ≡ consoleLeft (packedInto (consoleRun freshTable ts) s) (answered ts t)
+    length s ≡ 176 → tableTurn (tableAfter s ts) t ≡ consoleLeft (packedInto (consoleRun freshTable ts) s) (answered ts t)
 
 -- answer, place and count are read off the result
 abbrev pub TurnNumbers : Type 0
 TurnNumbers =
     (s : List ℕ) (ts : List ConsoleTurn) (t : ConsoleTurn) →
-    length s ≡ 168 →
+    length s ≡ 176 →
     (tableTurn (tableAfter s ts) t .result / 16777216 ≡ answered ts t .answer)
     × (tableTurn (tableAfter s ts) t .result / 65536 % 256 ≡ answered ts t .place)
     × (tableTurn (tableAfter s ts) t .result % 65536 ≡ answered ts t .count)
@@ -61,7 +61,7 @@ TurnNumbers =
 abbrev pub TurnMessages : Type 0
 TurnMessages =
     (s : List ℕ) (ts : List ConsoleTurn) (t : ConsoleTurn) →
-    length s ≡ 168 →
+    length s ≡ 176 →
     (tableTurn (tableAfter s ts) t .result % 65536 ≡ length (bytesOf (framed (consoleRun freshTable ts) t)))
     × (tableTurn (tableAfter s ts) t .out ≡ sets (t .buffer) 0 (bytesOf (framed (consoleRun freshTable ts) t)))
 
@@ -69,16 +69,16 @@ TurnMessages =
 abbrev pub TableReadsBack : Type 0
 TableReadsBack =
     (s : List ℕ) (ts : List ConsoleTurn) (t : ConsoleTurn) →
-    length s ≡ 168 →
+    length s ≡ 176 →
     Reads (take (tableTurn (tableAfter s ts) t .result % 65536) (tableTurn (tableAfter s ts) t .out)) (framed (consoleRun freshTable ts) t)
 
 -- 1 never comes back
 abbrev pub TableNeverUnsound : Type 0
 TableNeverUnsound =
-    (s : List ℕ) (ts : List ConsoleTurn) (t : ConsoleTurn) → length s ≡ 168 → tableTurn (tableAfter s ts) t .result / 16777216 ≡ 1 → ⊥
+    (s : List ℕ) (ts : List ConsoleTurn) (t : ConsoleTurn) → length s ≡ 176 → tableTurn (tableAfter s ts) t .result / 16777216 ≡ 1 → ⊥
 
 -- nor does 7 where 184 bytes are lent
 abbrev pub TableEnough : Type 0
 TableEnough =
     (s : List ℕ) (ts : List ConsoleTurn) (t : ConsoleTurn) →
-    length s ≡ 168 → 184 ≤ length (t .buffer) → tableTurn (tableAfter s ts) t .result / 16777216 ≡ 7 → ⊥
+    length s ≡ 176 → 184 ≤ length (t .buffer) → tableTurn (tableAfter s ts) t .result / 16777216 ≡ 7 → ⊥

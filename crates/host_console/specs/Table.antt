@@ -13,19 +13,19 @@ use Rattle.host.specs.Entries.{word}
 
 -- the bytes of the record that begins at a position
 abbrev pub recordAt : ℕ → List ℕ → List ℕ
-recordAt at s = take 21 (drop at s)
+recordAt at s = take 22 (drop at s)
 
--- 168 bytes, and each of the eight parts is a record
+-- 176 bytes, and each of the eight parts is a record
 unfoldable pub isTable : List ℕ → Bool
 isTable s =
-    eqb (length s) 168 && isRecord (recordAt 0 s) && isRecord (recordAt 21 s) && isRecord (recordAt 42 s) && isRecord (recordAt 63 s)
-    && isRecord (recordAt 84 s) && isRecord (recordAt 105 s) && isRecord (recordAt 126 s) && isRecord (recordAt 147 s)
+    eqb (length s) 176 && isRecord (recordAt 0 s) && isRecord (recordAt 22 s) && isRecord (recordAt 44 s) && isRecord (recordAt 66 s)
+    && isRecord (recordAt 88 s) && isRecord (recordAt 110 s) && isRecord (recordAt 132 s) && isRecord (recordAt 154 s)
 
 -- the records that a table's bytes hold
 unfoldable pub heldTable : List ℕ → List Call
 heldTable s =
-    held (recordAt 0 s) ∷ held (recordAt 21 s) ∷ held (recordAt 42 s) ∷ held (recordAt 63 s) ∷ held (recordAt 84 s) ∷ held (recordAt 105 s)
-    ∷ held (recordAt 126 s) ∷ held (recordAt 147 s) ∷ []
+    held (recordAt 0 s) ∷ held (recordAt 22 s) ∷ held (recordAt 44 s) ∷ held (recordAt 66 s) ∷ held (recordAt 88 s) ∷ held (recordAt 110 s)
+    ∷ held (recordAt 132 s) ∷ held (recordAt 154 s) ∷ []
 
 -- a record into its part
 abbrev pub packedAt : ℕ → Call → List ℕ → List ℕ
@@ -34,15 +34,15 @@ packedAt at c s = sets s at (packed c)
 -- eight records into a table's bytes
 unfoldable pub packedInto : List Call → List ℕ → List ℕ
 packedInto calls s =
-    packedAt 147 (callAt calls 7)
-    (packedAt 126 (callAt calls 6)
-    (packedAt 105 (callAt calls 5)
-    (packedAt 84 (callAt calls 4)
-    (packedAt 63 (callAt calls 3) (packedAt 42 (callAt calls 2) (packedAt 21 (callAt calls 1) (packedAt 0 (callAt calls 0) s)))))))
+    packedAt 154 (callAt calls 7)
+    (packedAt 132 (callAt calls 6)
+    (packedAt 110 (callAt calls 5)
+    (packedAt 88 (callAt calls 4)
+    (packedAt 66 (callAt calls 3) (packedAt 44 (callAt calls 2) (packedAt 22 (callAt calls 1) (packedAt 0 (callAt calls 0) s)))))))
 
--- eight fresh records into 168 bytes; 1 for another length
+-- eight fresh records into 176 bytes; 1 for another length
 unfoldable pub consoleFreshened : List ℕ → ℕ × List ℕ
-consoleFreshened s = cond (eqb (length s) 168) (word 0 0 168, packedInto freshTable s) (word 1 0 0, s)
+consoleFreshened s = cond (eqb (length s) 176) (word 0 0 176, packedInto freshTable s) (word 1 0 0, s)
 
 -- what a step leaves: the result, the table's bytes and the lent buffer
 pub record TableLeft : Type 0 where

@@ -1,4 +1,4 @@
-// The console on byte slices: a table is eight records of 21 bytes, one after the other.
+// The console on byte slices: a table is eight records of 22 bytes, one after the other.
 ghost use mathlib.Core.Path.{_≡_};
 ghost use mathlib.Core.List.{List};
 ghost use Prim.Native.Nat.{ℕ};
@@ -15,13 +15,13 @@ use host::packed::pack;
 fn is_table(s: &[u8]) -> bool
     ensures { λ r. ⌜ r ≡ isTable (now (s .entry)) ⌝ }
 {
-    if s.len() != 168 {
+    if s.len() != 176 {
         return false;
     }
     let mut k = 0;
     while k < 8 {
-        let at = 21 * k;
-        if !is_record(&s[at..at + 21]) {
+        let at = 22 * k;
+        if !is_record(&s[at..at + 22]) {
             return false;
         }
         k += 1;
@@ -31,14 +31,14 @@ fn is_table(s: &[u8]) -> bool
 
 // The calls that a table's bytes hold.
 fn held_table(s: &[u8]) -> [Call; 8]
-    requires { ⌜ length (now s) ≡ 168 ⌝ }
+    requires { ⌜ length (now s) ≡ 176 ⌝ }
     ensures { λ r. ⌜ r ≡ heldTable (now (s .entry)) ⌝ }
 {
     let mut calls = [Call::fresh(); 8];
     let mut k = 0;
     while k < 8 {
-        let at = 21 * k;
-        calls[k] = held(&s[at..at + 21]);
+        let at = 22 * k;
+        calls[k] = held(&s[at..at + 22]);
         k += 1;
     }
     calls
@@ -46,27 +46,27 @@ fn held_table(s: &[u8]) -> [Call; 8]
 
 // Eight calls into a table's bytes.
 fn pack_table(calls: [Call; 8], s: &mut [u8])
-    requires { ⌜ length (now s) ≡ 168 ⌝ }
+    requires { ⌜ length (now s) ≡ 176 ⌝ }
     ensures { λ _. ⌜ now (s .exit) ≡ packedInto calls (now (s .entry)) ⌝ }
 {
     let mut k = 0;
     while k < 8 {
-        let at = 21 * k;
-        pack(calls[k], &mut s[at..at + 21]);
+        let at = 22 * k;
+        pack(calls[k], &mut s[at..at + 22]);
         k += 1;
     }
 }
 
-// Writes eight fresh records; answer 1 where the table has not 168 bytes.
+// Writes eight fresh records; answer 1 where the table has not 176 bytes.
 #[no_mangle]
 pub extern "C" fn callcontrol_console_fresh(table: &mut [u8]) -> u32
     ensures { λ r. ⌜ _≡_ {A = ℕ × List ℕ} (r, now (table .exit)) (consoleFreshened (now (table .entry))) ⌝ }
 {
-    if table.len() != 168 {
+    if table.len() != 176 {
         return 16777216;
     }
     pack_table([Call::fresh(); 8], table);
-    168
+    176
 }
 
 // One event for the console: the table goes on and the messages are in out, or nothing is changed.

@@ -1,6 +1,6 @@
 -- Laws that several proofs use: what a run of stores leaves, and how many bytes a record takes.
 use Prim.Native.Nat.{ℕ, zero, suc, _+_}
-use mathlib.Core.Bool.{Bool, true, false}
+use mathlib.Core.Bool.{Bool, true, false, _&&_}
 use mathlib.Core.List.{List, [], _∷_, _++_}
 use mathlib.Core.Path.{_≡_, refl, _∙_, ap}
 use native.Mathlib.Nat.{add-zero}
@@ -15,6 +15,10 @@ use Rattle.records.specs.Bodies.{Values, Flat, Stored, size, bodyBytes, 
 pub by-test : {A : Type 0} (b : Bool) → (b ≡ true → A) → (b ≡ false → A) → A
 by-test true met missed = met refl
 by-test false met missed = missed refl
+
+pub both : (a b : Bool) → (a && b) ≡ true → (a ≡ true) × (b ≡ true)
+both true b h = (refl, h)
+both false b h = (h, cc)
 
 pub sets-append : (xs : List ℕ) (l ys : List ℕ) (i : ℕ) → sets l i (xs ++ ys) ≡ sets (sets l i xs) (i + length xs) ys
 sets-append [] l ys i = rw add-zero

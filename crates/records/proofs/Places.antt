@@ -7,21 +7,21 @@ use mathlib.Core.List.{List, [], _∷_, _++_}
 use mathlib.Core.Logic.{_⊎_, inl, inr, ⊎-elim}
 use mathlib.Core.Option.{Option, none, some}
 use native.Mathlib.Omega.{arith}
-use borrow.Author.Tests.{eqb-true, eqb-false}
+use borrow.Author.Tests.{eqb-true, eq-eqb}
 use lib.Dec.{eqb}
 use lib.ListN.{length}
 use Rattle.records.specs.Bytes.{number}
 use Rattle.records.specs.Letters.{Letter, width, fits}
 use Rattle.records.specs.Bodies.{Values, Found, is, badAt, andThen, size, valueAt, valuesAt, numbersAt, kindIn, bodyOf, allFit}
-use Rattle.records.specs.Tables.{Table, Read, taken, refused, orRefuse, orPlace, find, readBody, readAs, read}
+use Rattle.records.specs.Tables.{Table, Read, taken, refused, orRefuse, orPlace, find, known, sizeOf, sized, readBody, readAmong, readAs, read}
 use Rattle.records.specs.Events.{events}
 use Rattle.records.specs.Messages.{messages}
 use Rattle.records.specs.Laws.{Lawful, FirstWrong, WrongBody, wrongSize, wrongField, wrongTogether, PlaceIsWrong, WrongHasPlace, PlaceOnlyWithFour}
 use Rattle.records.proofs.Tables.{event-lawful, message-lawful}
-use Rattle.records.proofs.Laws.{by-test}
+use Rattle.records.proofs.Laws.{both, by-test}
 use Rattle.records.proofs.Reading.{Bad}
-use Rattle.records.proofs.RoundTrip.{both, one-more, found-number}
-use Rattle.records.proofs.Rows.{other-size, bad, apart, headed}
+use Rattle.records.proofs.RoundTrip.{one-more, found-number, found-size, found-known, known-kind}
+use Rattle.records.proofs.Rows.{by-size, of-all, bad, apart, headed}
 
 -- ---- letters
 
@@ -121,6 +121,14 @@ body-four : {A B : Type 0} (o : Found A) (f : A → Read B) → ((a : A) → Pla
 body-four (is a) f rest n p e other = rest a n p e other
 body-four (badAt q) f rest n p e other = let is-four : n ≡ 4 = cc in absurd (other is-four)
 
+not-three : {A : Type 0} (b : Bool) (x : Read A) (p : ℕ) → cond b x (refused 3 0) ≡ refused 4 p → (b ≡ true) × (x ≡ refused 4 p)
+not-three true x p e = (refl, e)
+not-three false x p e = let z : _≡_ {A = ℕ} 3 4 = cc in absurd (omega arith)
+
+three-four : {A : Type 0} (b : Bool) (x : Read A) → Placeless x → Placeless (cond b x (refused 3 0))
+three-four true x rest n p e other = rest n p e other
+three-four false x rest n p e other = cc
+
 module _ (t : Table) (lawful : Lawful t) where
   -- a body of the right size
   wrong-in : (k : t .Kind) (s : List ℕ) (p : ℕ) → length s ≡ 4 + size (t .rowOf k .letters) → orPlace (valuesAt (t .rowOf k .letters) s 4) (λ vs. cond (t .agrees (t .valueOf k vs)) (taken (t .valueOf k vs)) (refused 4 (t .clash))) ≡ refused 4 p → WrongBody t k s p
@@ -132,30 +140,56 @@ module _ (t : Table) (lawful : Lawful t) where
       subst (WrongBody t k s) (f .1) (wrongTogether whole (fit .1) (rw (fit .0) at (f .0))))
       (λ q wrong. let same : q ≡ p = cc (rw wrong at e) in wrongField whole (subst (FirstWrong (t .rowOf k .letters) s 4) same (first-wrong _ s 4 q wrong)))
 
-  wrong-body : (k : t .Kind) (s : List ℕ) (p : ℕ) → readBody t k s ≡ refused 4 p → WrongBody t k s p
+  wrong-body : (k : t .Kind) (s : List ℕ) (p : ℕ) → length s ≡ sizeOf t k → readBody t k s ≡ refused 4 p → WrongBody t k s p
   unfolding readBody bodyOf
-  wrong-body k s p e =
-      by-test (eqb (length s) (4 + size (t .rowOf k .letters)))
-      (λ h. wrong-in k s p (eqb-true _ _ h) (rw h at e))
-      (λ h. let two : 2 ≡ p = cc (rw h at e) in subst (WrongBody t k s) two (wrongSize (eqb-false _ _ h)))
+  wrong-body k s p whole e = wrong-in k s p whole (rw (eq-eqb _ _ whole) at e)
+
+  -- no kind of a number has a size
+  none-so : (n : ℕ) (s : List ℕ) → find t n (length s) (t .kinds) ≡ none → (j : t .Kind) → t .rowOf j .number ≡ n → length s ≡ sizeOf t j → ⊥
+  none-so n s missing j key whole =
+      let e : find t n (length s) (t .kinds) ≡ some j = rw (← key, whole) (lawful .found j) in
+      let z : _≡_ {A = ℕ} 0 1 = cc in omega arith
+
+  of-number : (n : ℕ) (s : List ℕ) (p : ℕ) (o : Option (t .Kind)) → find t n (length s) (t .kinds) ≡ o → known t n (t .kinds) ≡ true → orPlace (sized o) (λ k. readBody t k s) ≡ refused 4 p → (k : t .Kind) × ((n ≡ t .rowOf k .number) × WrongBody t k s p)
+  of-number n s p none missing kn e =
+      let w : (k : t .Kind) × (n ≡ t .rowOf k .number) = known-kind t lawful n (t .kinds) kn in
+      let two : 2 ≡ p = cc in
+      (w .0, (w .1, subst (WrongBody t (w .0) s) two (wrongSize (λ j key whole. none-so n s missing j (key ∙ sym (w .1)) whole))))
+  of-number n s p (some k) found kn e = (k, (found-number t lawful n (length s) (t .kinds) k found, wrong-body k s p (found-size t lawful n (length s) (t .kinds) k found) e))
 
   pub place-is-wrong : PlaceIsWrong t
-  unfolding read readAs
+  unfolding read readAs readAmong
   place-is-wrong s p e =
       let head : (n : ℕ) × ((kindIn s ≡ some n) × (readAs t n s ≡ refused 4 p)) = passed 2 (kindIn s) (λ n. readAs t n s) p (λ (h : 2 ≡ 4). omega arith) e in
-      let line : (k : t .Kind) × ((find t (head .0) (t .kinds) ≡ some k) × (readBody t k s ≡ refused 4 p)) = passed 3 (find t (head .0) (t .kinds)) (λ k. readBody t k s) p (λ (h : 3 ≡ 4). omega arith) (head .1 .1) in
-      (line .0, (head .1 .0 ∙ ap some (found-number t lawful (head .0) (t .kinds) (line .0) (line .1 .0)), wrong-body (line .0) s p (line .1 .1)))
+      let line : (known t (head .0) (t .kinds) ≡ true) × (orPlace (sized (find t (head .0) (length s) (t .kinds))) (λ k. readBody t k s) ≡ refused 4 p) = not-three (known t (head .0) (t .kinds)) (orPlace (sized (find t (head .0) (length s) (t .kinds))) (λ k. readBody t k s)) p (head .1 .1) in
+      let w : (k : t .Kind) × ((head .0 ≡ t .rowOf k .number) × WrongBody t k s p) = of-number (head .0) s p (find t (head .0) (length s) (t .kinds)) refl (line .0) (line .1) in
+      (w .0, (head .1 .0 ∙ ap some (w .1 .0), w .1 .1))
+
+  so-none : (k : t .Kind) (s : List ℕ) (o : Option (t .Kind)) → find t (t .rowOf k .number) (length s) (t .kinds) ≡ o → ((j : t .Kind) → t .rowOf j .number ≡ t .rowOf k .number → length s ≡ sizeOf t j → ⊥) → o ≡ none
+  so-none k s none found other = refl
+  so-none k s (some j) found other = absurd (other j (sym (found-number t lawful _ (length s) (t .kinds) j found)) (found-size t lawful _ (length s) (t .kinds) j found))
+
+  size-refused : (k : t .Kind) (s : List ℕ) → ((j : t .Kind) → t .rowOf j .number ≡ t .rowOf k .number → length s ≡ sizeOf t j → ⊥) → refused 4 2 ≡ readAs t (t .rowOf k .number) s
+  unfolding readAs readAmong
+  size-refused k s other =
+      let kn : known t (t .rowOf k .number) (t .kinds) ≡ true = found-known t lawful _ (sizeOf t k) (t .kinds) k (lawful .found k) in
+      let gone : find t (t .rowOf k .number) (length s) (t .kinds) ≡ none = so-none k s (find t (t .rowOf k .number) (length s) (t .kinds)) refl other in
+      rw (kn, gone)
+
+  by-its-size : (k : t .Kind) (s : List ℕ) → length s ≡ sizeOf t k → {r : Read (t .Value)} → r ≡ readBody t k s → r ≡ readAs t (t .rowOf k .number) s
+  by-its-size k s whole e = of-all t _ s (by-size t (t .kinds) k s refl (found-known t lawful _ (sizeOf t k) (t .kinds) k (lawful .found k)) whole (lawful .found k) e)
 
   pub wrong-has-place : WrongHasPlace t
-  wrong-has-place s p k kind (wrongSize other) = sym (headed t s (sym kind) (other-size t (lawful .found) k s refl other))
-  wrong-has-place s p k kind (wrongField whole w) = sym (headed t s (sym kind) (bad t (lawful .found) k s refl whole (first-bad w)))
+  wrong-has-place s p k kind (wrongSize other) = sym (headed t s (sym kind) (size-refused k s other))
+  wrong-has-place s p k kind (wrongField whole w) = sym (headed t s (sym kind) (by-its-size k s whole (bad t k s whole (first-bad w))))
   wrong-has-place s p k kind (wrongTogether whole fit clash) =
-      sym (headed t s (sym kind) (apart t (lawful .found) k s refl whole (record { held = sym (all-fit (t .rowOf k .letters) s 4 fit) }) clash))
+      sym (headed t s (sym kind) (by-its-size k s whole (apart t k s whole (record { held = sym (all-fit (t .rowOf k .letters) s 4 fit) }) clash)))
 
   pub place-only-with-four : PlaceOnlyWithFour t
-  unfolding read readAs readBody
+  unfolding read readAs readAmong readBody
   place-only-with-four s =
-      unplaced 2 (kindIn s) _ (λ n. unplaced 3 (find t n (t .kinds)) _ (λ k. body-four (bodyOf (t .rowOf k .letters) s) _ (λ vs. four (t .agrees (t .valueOf k vs)) _ (t .clash))))
+      unplaced 2 (kindIn s) _
+      (λ n. three-four (known t n (t .kinds)) _ (body-four (sized (find t n (length s) (t .kinds))) _ (λ k. body-four (bodyOf (t .rowOf k .letters) s) _ (λ vs. four (t .agrees (t .valueOf k vs)) _ (t .clash)))))
 
 -- ---- the two tables
 

@@ -15,22 +15,18 @@ use lib.Seq.{drop-cons, drop-drop, drop-at, take-add, take-all, take-append-seam
 use Rattle.records.specs.declared.letters.Byte.{Byte}
 use Rattle.records.specs.declared.letters.Word.{Word}
 use Rattle.records.specs.declared.letters.Long.{Long}
-use Rattle.records.specs.Letters.{Letter, byte, word, long, width, fits, spanOf, within, isTimer}
+use Rattle.records.specs.Letters.{Letter, byte, word, long, width, fits, spanOf, within, isTimer, isDirectTimer}
 use Rattle.records.specs.Bytes.{number, bytes}
 use Rattle.records.specs.Bodies.{Values, Flat, Wrote, wrote, notWritten, Found, is, badAt, size, andThen, valueAt, valuesAt, kindIn, bodyOf, allFit, bodyBytes, flatSize, flatFits, flatBytes, written}
-use Rattle.records.specs.Tables.{Table, Read, taken, refused, orRefuse, orPlace, find, readBody, readAs, read, flat, fine, write}
+use Rattle.records.specs.Tables.{Table, Read, taken, refused, orRefuse, orPlace, find, known, sizeOf, sized, readBody, readAmong, readAs, read, flatOf, flat, fine, write}
 use Rattle.records.specs.Laws.{every, Lawful, WrittenReadsBack, WriterReadsBack, ReadIsWrittenBack, ReadWritesBack}
 use Rattle.records.specs.Events.{events}
 use Rattle.records.specs.Messages.{messages}
-use Rattle.records.proofs.Laws.{length-bytes, length-bodyBytes}
-use Rattle.records.proofs.Rows.{good, headed}
+use Rattle.records.proofs.Laws.{by-test, both, length-bytes, length-bodyBytes}
+use Rattle.records.proofs.Rows.{by-size, of-all, good, headed}
 use Rattle.records.proofs.Tables.{event-lawful, message-lawful}
 
 -- ---- tests and options that came out well
-
-pub both : (a b : Bool) → (a && b) ≡ true → (a ≡ true) × (b ≡ true)
-both true b h = (refl, h)
-both false b h = (h, cc)
 
 either : {n : ℕ} (a : Bool) (v k : ℕ) → (a ≡ true → v < n) → k < n → (a || eqb v k) ≡ true → v < n
 either true v k f h e = f refl
@@ -49,7 +45,10 @@ most Byte.O16 = lit< tt
 most Byte.C = lit< tt
 most Byte.P = lit< tt
 most Byte.X = lit< tt
+most Byte.S = lit< tt
 most Byte.Y = lit< tt
+most Byte.V = lit< tt
+most Byte.Any = lit< tt
 
 timer : (v : ℕ) → isTimer v ≡ true → v < 65536
 unfolding isTimer
@@ -66,6 +65,10 @@ timer v =
     (lit< tt))
     (lit< tt)
 
+direct-timer : (v : ℕ) → isDirectTimer v ≡ true → v < 65536
+unfolding isDirectTimer
+direct-timer v = either _ v 311 (λ (h : eqb v 303 ≡ true). omega (arith, eqb-true v 303 h)) (lit< tt)
+
 capped : (least most v : ℕ) → within least most v ≡ true → v ≤ most
 unfolding within
 capped least most v h = leb-true v most (both (leb least v) (leb v most) h .1)
@@ -75,6 +78,8 @@ below (byte b) v h = omega (arith, most b, capped (spanOf b .least) (spanOf b .m
 below (word Word.I) v h = omega (arith, capped 1 16383 v h)
 below (word Word.I0) v h = omega (arith, capped 0 16383 v h)
 below (word Word.N) v h = timer v h
+below (word Word.U) v h = omega (arith, capped 0 65535 v h)
+below (word Word.N2) v h = direct-timer v h
 below (long Long.A) v h = omega (arith, capped 0 16777215 v h)
 below (long Long.A1) v h = omega (arith, capped 1 16777215 v h)
 
@@ -143,9 +148,9 @@ kept : {A : Type 0} (b : Bool) (o : Option A) (a : A) → cond b o none ≡ some
 kept true o a e = (refl, e)
 kept false o a e = (cc, cc)
 
-sized : {A : Type 0} (b : Bool) (o : Found A) (a : A) → cond b o (badAt 2) ≡ is a → (b ≡ true) × (o ≡ is a)
-sized true o a e = (refl, e)
-sized false o a e = (cc, cc)
+measured : {A : Type 0} (b : Bool) (o : Found A) (a : A) → cond b o (badAt 2) ≡ is a → (b ≡ true) × (o ≡ is a)
+measured true o a e = (refl, e)
+measured false o a e = (cc, cc)
 
 took : {A B : Type 0} (n : ℕ) (o : Option A) (f : A → Read B) (v : B) → orRefuse n o f ≡ taken v → (a : A) × ((o ≡ some a) × (f a ≡ taken v))
 took n none f v e = let z : _≡_ {A = ℕ} 0 1 = cc in absurd (omega arith)
@@ -154,6 +159,15 @@ took n (some a) f v e = (a, (refl, e))
 held : {A B : Type 0} (o : Found A) (f : A → Read B) (v : B) → orPlace o f ≡ taken v → (a : A) × ((o ≡ is a) × (f a ≡ taken v))
 held (is a) f v e = (a, (refl, e))
 held (badAt p) f v e = let z : _≡_ {A = ℕ} 0 1 = cc in absurd (omega arith)
+
+-- a number that is known, and a kind that has the size
+knew : {A : Type 0} (b : Bool) (x : Read A) (v : A) → cond b x (refused 3 0) ≡ taken v → x ≡ taken v
+knew true x v e = e
+knew false x v e = cc
+
+pub of-size : {A : Type 0} (o : Option A) (k : A) → sized o ≡ is k → o ≡ some k
+of-size none k e = cc
+of-size (some j) k e = cc
 
 agreed : {A : Type 0} (b : Bool) (x v : A) (p : ℕ) → cond b (taken x) (refused 4 p) ≡ taken v → (b ≡ true) × (x ≡ v)
 agreed true x v p e = (refl, cc)
@@ -173,27 +187,40 @@ cut s n e =
 
 module _ (t : Table) (lawful : Lawful t) where
   -- the kind that is found has the number
-  pub found-number : (n : ℕ) (ks : List (t .Kind)) (k : t .Kind) → find t n ks ≡ some k → n ≡ t .rowOf k .number
-  found-number n [] k e = cc
-  found-number n (j ∷ ks) k e =
-      ⊎-elim (λ w. eqb-true n (t .rowOf j .number) (w .0) ∙ ap (λ i. t .rowOf i .number) (w .1)) (found-number n ks k)
-      (chosen (eqb n (t .rowOf j .number)) j k (find t n ks) e)
+  pub found-number : (n z : ℕ) (ks : List (t .Kind)) (k : t .Kind) → find t n z ks ≡ some k → n ≡ t .rowOf k .number
+  found-number n z [] k e = cc
+  found-number n z (j ∷ ks) k e =
+      ⊎-elim (λ w. eqb-true n (t .rowOf j .number) (both _ _ (w .0) .0) ∙ ap (λ i. t .rowOf i .number) (w .1)) (found-number n z ks k)
+      (chosen (eqb n (t .rowOf j .number) && eqb z (sizeOf t j)) j k (find t n z ks) e)
+
+  -- and the size
+  pub found-size : (n z : ℕ) (ks : List (t .Kind)) (k : t .Kind) → find t n z ks ≡ some k → z ≡ sizeOf t k
+  found-size n z [] k e = cc
+  found-size n z (j ∷ ks) k e =
+      ⊎-elim (λ w. eqb-true z (sizeOf t j) (both (eqb n (t .rowOf j .number)) (eqb z (sizeOf t j)) (w .0) .1) ∙ ap (sizeOf t) (w .1)) (found-size n z ks k)
+      (chosen (eqb n (t .rowOf j .number) && eqb z (sizeOf t j)) j k (find t n z ks) e)
+
+  -- a number that is known is a kind's
+  pub known-kind : (n : ℕ) (ks : List (t .Kind)) → known t n ks ≡ true → (k : t .Kind) × (n ≡ t .rowOf k .number)
+  known-kind n [] h = let z : _≡_ {A = Bool} false true = h in let y : _≡_ {A = ℕ} 0 1 = cc in absurd (omega arith)
+  known-kind n (j ∷ ks) h = by-test (eqb n (t .rowOf j .number)) (λ y. (j, eqb-true _ _ y)) (λ no. known-kind n ks (rw no at h))
+
+  -- a number that leads to a kind is known
+  pub found-known : (n z : ℕ) (ks : List (t .Kind)) (k : t .Kind) → find t n z ks ≡ some k → known t n ks ≡ true
+  found-known n z [] k e = cc
+  found-known n z (j ∷ ks) k e = by-test (eqb n (t .rowOf j .number)) (λ h. rw h) (λ h. rw h (found-known n z ks k (rw h at e)))
 
   -- and a test of every kind holds of it
-  every-found : (p : t .Kind → Bool) (n : ℕ) (ks : List (t .Kind)) (k : t .Kind) → find t n ks ≡ some k → every p ks ≡ true → p k ≡ true
-  every-found p n [] k e h = cc
-  every-found p n (j ∷ ks) k e h =
-      ⊎-elim (λ w. rw (w .1) at (both (p j) (every p ks) h .0)) (λ w. every-found p n ks k w (both (p j) (every p ks) h .1))
-      (chosen (eqb n (t .rowOf j .number)) j k (find t n ks) e)
+  pub every-found : (p : t .Kind → Bool) (n z : ℕ) (ks : List (t .Kind)) (k : t .Kind) → find t n z ks ≡ some k → every p ks ≡ true → p k ≡ true
+  every-found p n z [] k e h = cc
+  every-found p n z (j ∷ ks) k e h =
+      ⊎-elim (λ w. rw (w .1) at (both (p j) (every p ks) h .0)) (λ w. every-found p n z ks k w (both (p j) (every p ks) h .1))
+      (chosen (eqb n (t .rowOf j .number) && eqb z (sizeOf t j)) j k (find t n z ks) e)
 
   pub narrow : (k : t .Kind) → (t .rowOf k .number < 65536) × (4 + size (t .rowOf k .letters) < 65536)
   narrow k =
-      let w : (ltb (t .rowOf k .number) 65536 ≡ true) × (ltb (4 + size (t .rowOf k .letters)) 65536 ≡ true) = both _ _ (every-found _ (t .rowOf k .number) (t .kinds) k (lawful .found k) (lawful .narrow)) in
+      let w : (ltb (t .rowOf k .number) 65536 ≡ true) × (ltb (4 + size (t .rowOf k .letters)) 65536 ≡ true) = both _ _ (every-found _ (t .rowOf k .number) (sizeOf t k) (t .kinds) k (lawful .found k) (lawful .narrow)) in
       (ltb-true _ _ (w .0), ltb-true _ _ (w .1))
-
-  -- a kind with its values, as letters
-  abbrev flatOf : (k : t .Kind) × Values (t .rowOf k .letters) → Flat
-  flatOf kv = record { kind = t .rowOf (kv .0) .number; letters = t .rowOf (kv .0) .letters; values = kv .1 }
 
   -- bytes that are the record of a kind with its values
   record Holds (k : t .Kind) (vs : Values (t .rowOf k .letters)) (s : List ℕ) : Type 0 where
@@ -207,29 +234,29 @@ module _ (t : Table) (lawful : Lawful t) where
   unfolding kindIn
   holds-read k vs s h agrees =
       let head : some (t .rowOf k .number) ≡ kindIn s = rw (le-leb 4 (length s) (omega arith), eq-eqb _ _ (h .said), h .kind) in
-      sym (headed t s head (good t (lawful .found) k s refl (h .measured) (record { held = sym (h .body) }) agrees))
+      sym (headed t s head (of-all t _ s (by-size t (t .kinds) k s refl (found-known _ _ (t .kinds) k (lawful .found k)) (h .measured) (lawful .found k) (good t k s (h .measured) (record { held = sym (h .body) }) agrees))))
 
   -- and nothing else is
   read-holds : (v : t .Value) (s : List ℕ) → read t s ≡ taken v → (k : t .Kind) × ((vs : Values (t .rowOf k .letters)) × (Holds k vs s × ((t .agrees v ≡ true) × (t .valueOf k vs ≡ v))))
-  unfolding read readAs readBody kindIn bodyOf
+  unfolding read readAs readAmong readBody kindIn bodyOf
   read-holds v s e =
       let head : (n : ℕ) × ((kindIn s ≡ some n) × (readAs t n s ≡ taken v)) = took 2 (kindIn s) (λ n. readAs t n s) v e in
-      let line : (k : t .Kind) × ((find t (head .0) (t .kinds) ≡ some k) × (readBody t k s ≡ taken v)) = took 3 (find t (head .0) (t .kinds)) (λ k. readBody t k s) v (head .1 .1) in
+      let line : (k : t .Kind) × ((sized (find t (head .0) (length s) (t .kinds)) ≡ is k) × (readBody t k s ≡ taken v)) = held (sized (find t (head .0) (length s) (t .kinds))) (λ k. readBody t k s) v (knew (known t (head .0) (t .kinds)) (orPlace (sized (find t (head .0) (length s) (t .kinds))) (λ k. readBody t k s)) v (head .1 .1)) in
       let k : t .Kind = line .0 in
       let w : (vs : Values (t .rowOf k .letters)) × ((bodyOf (t .rowOf k .letters) s ≡ is vs) × (cond (t .agrees (t .valueOf k vs)) (taken (t .valueOf k vs)) (refused 4 (t .clash)) ≡ taken v)) = held (bodyOf (t .rowOf k .letters) s) _ v (line .1 .1) in
       let vs : Values (t .rowOf k .letters) = w .0 in
       let ok : (t .agrees (t .valueOf k vs) ≡ true) × (t .valueOf k vs ≡ v) = agreed _ _ v (t .clash) (w .1 .1) in
       let four : (leb 4 (length s) ≡ true) × (cond (eqb (number 2 s 0) (length s)) (some (number 2 s 2)) none ≡ some (head .0)) = kept _ _ _ (head .1 .0) in
       let said : (eqb (number 2 s 0) (length s) ≡ true) × (some (number 2 s 2) ≡ some (head .0)) = kept _ _ _ (four .1) in
-      let body : (eqb (length s) (4 + size (t .rowOf k .letters)) ≡ true) × (valuesAt (t .rowOf k .letters) s 4 ≡ is vs) = sized _ _ _ (w .1 .0) in
+      let body : (eqb (length s) (4 + size (t .rowOf k .letters)) ≡ true) × (valuesAt (t .rowOf k .letters) s 4 ≡ is vs) = measured _ _ _ (w .1 .0) in
       let number : number 2 s 2 ≡ head .0 = cc (said .1) in
-      (k, (vs, (record { measured = eqb-true _ _ (body .0); said = eqb-true _ _ (said .0); kind = number ∙ found-number (head .0) (t .kinds) k (line .1 .0); body = body .1 }, (rw (ok .1) at (ok .0), ok .1))))
+      (k, (vs, (record { measured = eqb-true _ _ (body .0); said = eqb-true _ _ (said .0); kind = number ∙ found-number (head .0) (length s) (t .kinds) k (of-size _ k (line .1 .0)); body = body .1 }, (rw (ok .1) at (ok .0), ok .1))))
 
   -- the bytes that are written are such
-  bytes-hold : (k : t .Kind) (vs : Values (t .rowOf k .letters)) → allFit (t .rowOf k .letters) vs ≡ true → Holds k vs (flatBytes (flatOf (k, vs)))
+  bytes-hold : (k : t .Kind) (vs : Values (t .rowOf k .letters)) → allFit (t .rowOf k .letters) vs ≡ true → Holds k vs (flatBytes (flatOf t k vs))
   unfolding flatBytes flatSize bytes
   bytes-hold k vs fit =
-      let measured : length (flatBytes (flatOf (k, vs))) ≡ 4 + size (t .rowOf k .letters) = omega (arith, length-bodyBytes (t .rowOf k .letters) vs) in
+      let measured : length (flatBytes (flatOf t k vs)) ≡ 4 + size (t .rowOf k .letters) = omega (arith, length-bodyBytes (t .rowOf k .letters) vs) in
       record {
         measured = measured;
         said = number-bytes 2 (4 + size (t .rowOf k .letters)) 0 _ (bytes 2 (t .rowOf k .number) ++ bodyBytes (t .rowOf k .letters) vs) (narrow k .1) refl ∙ sym measured;
@@ -238,7 +265,7 @@ module _ (t : Table) (lawful : Lawful t) where
       }
 
   -- and nothing else is
-  holds-bytes : (k : t .Kind) (vs : Values (t .rowOf k .letters)) (s : List ℕ) → ((i : ℕ) → getD s i 0 < 256) → Holds k vs s → (flatBytes (flatOf (k, vs)) ≡ s) × (allFit (t .rowOf k .letters) vs ≡ true)
+  holds-bytes : (k : t .Kind) (vs : Values (t .rowOf k .letters)) (s : List ℕ) → ((i : ℕ) → getD s i 0 < 256) → Holds k vs s → (flatBytes (flatOf t k vs) ≡ s) × (allFit (t .rowOf k .letters) vs ≡ true)
   unfolding flatBytes flatSize
   holds-bytes k vs s small h =
       let length : bytes 2 (4 + size (t .rowOf k .letters)) ≡ take 2 s = rw (h .said, h .measured) at (bytes-number 2 0 s small (omega arith)) in
@@ -263,9 +290,9 @@ module _ (t : Table) (lawful : Lawful t) where
   unfolding fine flatFits
   read-is-written-back v s small e =
       let w : (k : t .Kind) × ((vs : Values (t .rowOf k .letters)) × (Holds k vs s × ((t .agrees v ≡ true) × (t .valueOf k vs ≡ v)))) = read-holds v s e in
-      let b : (flatBytes (flatOf (w .0, w .1 .0)) ≡ s) × (allFit (t .rowOf (w .0) .letters) (w .1 .0) ≡ true) = holds-bytes (w .0) (w .1 .0) s small (w .1 .1 .0) in
-      let same : _≡_ {A = (k : t .Kind) × Values (t .rowOf k .letters)} (t .apart v) (w .0, w .1 .0) = rw (w .1 .1 .1 .1) at (lawful .together (w .0) (w .1 .0)) in
-      (ap (λ kv. flatBytes (flatOf kv)) same ∙ b .0, rw (ap (λ kv. flatFits (flatOf kv)) same ∙ b .1, w .1 .1 .1 .0))
+      let b : (flatBytes (flatOf t (w .0) (w .1 .0)) ≡ s) × (allFit (t .rowOf (w .0) .letters) (w .1 .0) ≡ true) = holds-bytes (w .0) (w .1 .0) s small (w .1 .1 .0) in
+      let same : _≡_ {A = (k : t .Kind) × Values (t .rowOf k .letters)} (t .apart v) (w .0, w .1 .0) = rw (w .1 .1 .1 .1) at (lawful .together (w .0) (w .1 .0) (b .1)) in
+      (ap (λ kv. flatBytes (flatOf t (kv .0) (kv .1))) same ∙ b .0, rw (ap (λ kv. flatFits (flatOf t (kv .0) (kv .1))) same ∙ b .1, w .1 .1 .1 .0))
 
   pub read-writes-back : ReadWritesBack t
   unfolding write written

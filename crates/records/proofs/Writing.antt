@@ -1,15 +1,16 @@
 -- A record written from left to right: the tests of its fields, and the stores of head and fields one after the other, are those of its row.
-use Prim.Native.Nat.{ℕ, _+_, _-_, _<_, _≤_}
+use Prim.Native.Nat.{ℕ, _+_, _-_, _%_, _<_, _≤_}
 use mathlib.Core.Bool.{Bool, true, false, cond, not, _&&_, and-true}
 use mathlib.Core.List.{List, [], _∷_, _++_, append-assoc, append-nil}
 use mathlib.Core.Path.{_≡_, refl, sym, _∙_, ap}
-use native.Mathlib.Nat.{zero-add, add-zero}
+use native.Mathlib.Nat.{zero-add, add-zero, mod-eq-of-lt}
 use native.Mathlib.Omega.{arith}
 use borrow.Author.Tests.{leb-true, leb-false, lt-leb, le-leb, not-true, not-false}
 use lib.Dec.{leb}
 use borrow.Rule.Slice.PartMut.{midOf, putMid}
-use lib.ListN.{length, take, drop, length-append, length-drop, take-append-drop, drop-of-length-le}
+use lib.ListN.{length, set, take, drop, length-append, length-drop, take-append-drop, drop-of-length-le}
 use lib.Seq.{sets, sets-eq, drop-drop, take-all}
+use Rattle.records.specs.declared.letters.Byte.{Byte}
 use Rattle.records.specs.Bytes.{bytes}
 use Rattle.records.specs.Letters.{Letter, width, fits}
 use Rattle.records.specs.Bodies.{Values, Flat, Wrote, wrote, notWritten, size, allFit, bodyBytes, flatSize, flatFits, flatBytes, written, laid, laidNext}
@@ -25,6 +26,11 @@ pub record Tested (ls : List Letter) (vs : Values ls) (b : Bool) : Type 0 where
 pub none : Tested [] tt true
 unfolding allFit
 none = record { same = refl }
+
+-- a test of nothing that came out well
+pub no-more : {b : Bool} → b ≡ true → Tested [] tt b
+unfolding allFit
+no-more e = record { same = e }
 
 pub only : {l : Letter} {v : ℕ} {b : Bool} → b ≡ fits l v → Tested (l ∷ []) (v, tt) b
 unfolding allFit
@@ -48,6 +54,11 @@ pub put : {l : Letter} {ls : List Letter} {v : ℕ} {vs : Values ls} {old mid ne
 unfolding bodyBytes
 put {l} {ls} {v} {vs} {old} {mid} {new} {at} e p =
     record { now = rw (sets-append (bytes (width l) v) old (bodyBytes ls vs) at, length-bytes, ← e) (p .now) }
+
+-- a byte where it stands; it is its own remainder by 256
+pub store : {b : Byte} {ls : List Letter} {v : ℕ} {vs : Values ls} {old new : List ℕ} {at : ℕ} → v < 256 → Put ls vs (set old at v) (at + 1) new → Put (Letter.byte b ∷ ls) (v, vs) old at new
+unfolding bytes
+store {v = v} small p = let e : v % 256 ≡ v = mod-eq-of-lt small in put (rw e) p
 
 module _ (f : Flat) (old : List ℕ) {mid new : List ℕ} (head : mid ≡ sets old 0 (bytes 2 (4 + size (f .letters)) ++ bytes 2 (f .kind))) (body : Put (f .letters) (f .values) mid 4 new) where
   -- head and values make the record

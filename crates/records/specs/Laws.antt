@@ -9,16 +9,12 @@ use lib.ListN.{length, getD, take, drop}
 use Rattle.records.specs.Bytes.{number}
 use Rattle.records.specs.Letters.{Letter, width, fits}
 use Rattle.records.specs.Bodies.{Values, wrote, size, numbersAt, kindIn, allFit, flatBytes}
-use Rattle.records.specs.Tables.{Table, taken, refused, find, read, flat, fine, write}
+use Rattle.records.specs.Tables.{Table, sizeOf, taken, refused, find, read, flat, fine, write}
 
--- no number stands twice in a list
+-- a number stands nowhere in a list
 abbrev pub missing : ℕ → List ℕ → Bool
 missing n [] = true
 missing n (m ∷ ms) = not (eqb n m) && missing n ms
-
-abbrev pub distinct : List ℕ → Bool
-distinct [] = true
-distinct (n ∷ ns) = missing n ns && distinct ns
 
 abbrev pub every : {A : Type 0} → (A → Bool) → List A → Bool
 every p [] = true
@@ -35,10 +31,10 @@ pub record FirstWrong (ls : List Letter) (s : List ℕ) (at p : ℕ) : Type 0 wh
   pub wrong : fits letter (number (width letter) s p) ≡ false
 
 module _ (t : Table) where
-  -- what is wrong with the body of a kind, and its place: the size; else the first field out of its range; else, all fields being in range, the
-  -- field that does not agree
+  -- what is wrong with the body of a kind, and its place: the size, which no kind of its number has; else the first field out of its range; else,
+  -- all fields being in range, the field that does not agree
   pub data WrongBody (k : t .Kind) (s : List ℕ) : ℕ → Type 0 where
-    wrongSize : (length s ≡ 4 + size (t .rowOf k .letters) → ⊥) → WrongBody k s 2
+    wrongSize : ((j : t .Kind) → t .rowOf j .number ≡ t .rowOf k .number → length s ≡ sizeOf t j → ⊥) → WrongBody k s 2
     wrongField : {p : ℕ} → length s ≡ 4 + size (t .rowOf k .letters) → FirstWrong (t .rowOf k .letters) s 4 p → WrongBody k s p
     wrongTogether : length s ≡ 4 + size (t .rowOf k .letters) → allFit (t .rowOf k .letters) (numbersAt (t .rowOf k .letters) s 4) ≡ true → t .agrees (t .valueOf k (numbersAt (t .rowOf k .letters) s 4)) ≡ false → WrongBody k s (t .clash)
 
@@ -58,13 +54,17 @@ module _ (t : Table) where
   abbrev pub numbers : List ℕ
   numbers = map (λ k. t .rowOf k .number) (t .kinds)
 
+  -- number and size tell the kinds apart
+  abbrev pub ToldApart : Type 0
+  ToldApart = (j k : t .Kind) → t .rowOf j .number ≡ t .rowOf k .number → sizeOf t j ≡ sizeOf t k → j ≡ k
+
   -- what the tables meet, line by line
   pub record Lawful : Type 0 where
-    -- a kind and values are taken apart as they were put together, and the other way round
-    pub together : (k : t .Kind) (vs : Values (t .rowOf k .letters)) → _≡_ {A = (k : t .Kind) × Values (t .rowOf k .letters)} (t .apart (t .valueOf k vs)) (k, vs)
+    -- a kind and values in its letters' ranges are taken apart as they were put together, and the other way round
+    pub together : (k : t .Kind) (vs : Values (t .rowOf k .letters)) → allFit (t .rowOf k .letters) vs ≡ true → _≡_ {A = (k : t .Kind) × Values (t .rowOf k .letters)} (t .apart (t .valueOf k vs)) (k, vs)
     pub again : (v : t .Value) → t .valueOf (t .apart v .0) (t .apart v .1) ≡ v
-    -- a kind's number leads to it
-    pub found : (k : t .Kind) → find t (t .rowOf k .number) (t .kinds) ≡ some k
+    -- a kind's number and size lead to it
+    pub found : (k : t .Kind) → find t (t .rowOf k .number) (sizeOf t k) (t .kinds) ≡ some k
     -- numbers and lengths take two bytes
     pub narrow : every (λ k. ltb (t .rowOf k .number) 65536 && ltb (4 + size (t .rowOf k .letters)) 65536) (t .kinds) ≡ true
 
@@ -83,6 +83,10 @@ module _ (t : Table) where
   -- the same over a writer: where the bytes that were read fit, it counts them, and stores them before what the buffer held behind them
   abbrev pub ReadWritesBack : Type 0
   ReadWritesBack = (v : t .Value) (s buffer : List ℕ) → ((i : ℕ) → getD s i 0 < 256) → length s ≤ length buffer → read t s ≡ taken v → write t v buffer ≡ (wrote (length s), s ++ drop (length s) buffer)
+
+-- no kind of one table has a number of the other
+abbrev pub NoneShared : Table → Table → Type 0
+NoneShared t u = (j : t .Kind) (k : u .Kind) → t .rowOf j .number ≡ u .rowOf k .number → ⊥
 
 -- a promise that says `f result ≡ x` leaves one result, whatever x is
 abbrev pub Determines : {A B : Type 0} → (A → B) → Type 0

@@ -1,6 +1,6 @@
 -- The letters of a record's body: how many bytes each takes, and the numbers that it may stand for.
-use Prim.Native.Nat.{ℕ}
-use mathlib.Core.Bool.{Bool, _&&_, _||_}
+use Prim.Native.Nat.{ℕ, zero, suc}
+use mathlib.Core.Bool.{Bool, true, _&&_, _||_}
 use lib.Dec.{leb, eqb}
 use Rattle.records.specs.declared.letters.Byte.{Byte}
 use Rattle.records.specs.declared.letters.Word.{Word}
@@ -64,9 +64,27 @@ p = byte Byte.P
 abbrev pub x : Letter
 x = byte Byte.X
 
+-- slots per frame, of document 02
+abbrev pub s : Letter
+s = byte Byte.S
+
 -- a place of the console, of document 02
 abbrev pub y : Letter
 y = byte Byte.Y
+
+-- a question's number and the verdict on it, of document 02
+abbrev pub u : Letter
+u = word Word.U
+
+abbrev pub v : Letter
+v = byte Byte.V
+
+-- the letters of direct mode, of document 02: any byte, and a timer that is one of two
+abbrev pub any : Letter
+any = byte Byte.Any
+
+abbrev pub n₂ : Letter
+n₂ = word Word.N2
 
 -- least ≤ v ≤ most
 unfoldable pub within : ℕ → ℕ → ℕ → Bool
@@ -75,6 +93,10 @@ within least most v = leb least v && leb v most
 -- one of the seven timers
 unfoldable pub isTimer : ℕ → Bool
 isTimer v = eqb v 301 || eqb v 302 || eqb v 303 || eqb v 306 || eqb v 308 || eqb v 310 || eqb v 311
+
+-- one of the two timers of direct mode
+unfoldable pub isDirectTimer : ℕ → Bool
+isDirectTimer v = eqb v 303 || eqb v 311
 
 abbrev pub from : ℕ → ℕ → Span
 from least most = record { least = least; most = most }
@@ -91,7 +113,10 @@ spanOf Byte.O16 = from 0 16
 spanOf Byte.C = from 1 4
 spanOf Byte.P = from 1 4
 spanOf Byte.X = from 0 8
+spanOf Byte.S = from 1 4
 spanOf Byte.Y = from 0 7
+spanOf Byte.V = from 0 2
+spanOf Byte.Any = from 0 255
 
 -- the numbers that a letter may stand for
 abbrev pub fits : Letter → ℕ → Bool
@@ -99,5 +124,12 @@ fits (byte b) v = within (spanOf b .least) (spanOf b .most) v
 fits (word Word.I) v = within 1 16383 v
 fits (word Word.I0) v = within 0 16383 v
 fits (word Word.N) v = isTimer v
+fits (word Word.U) v = within 0 65535 v
+fits (word Word.N2) v = isDirectTimer v
 fits (long Long.A) v = within 0 16777215 v
 fits (long Long.A1) v = within 1 16777215 v
+
+-- the slots of a value that may carry none: 0 where it does not, else in the letter's range
+abbrev pub slotsFit : ℕ → Bool
+slotsFit zero = true
+slotsFit (suc m) = fits s (suc m)

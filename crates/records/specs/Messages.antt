@@ -1,19 +1,21 @@
--- The paper's table of messages, and what its lines stand for.
-use Prim.Native.Nat.{ℕ, _+_}
+-- The paper's table of messages, and what its lines stand for. U-SETUP may carry the slots at its end (document 02): each of its two bodies is a
+-- line; they are one value, whose slots are 0 where the body carries none.
+use Prim.Native.Nat.{ℕ, zero, suc, _+_}
 use mathlib.Core.Bool.{Bool, true, _||_}
-use mathlib.Core.List.{List, [], _∷_}
+use mathlib.Core.List.{List, [], _∷_, _++_}
 use lib.Dec.{eqb}
-use Rattle.records.specs.Letters.{width, a₁, d, q, i, i₀, c, a, n, o, p, g, x, y}
+use Rattle.records.specs.Letters.{width, a₁, d, q, i, i₀, c, a, n, o, p, g, x, s, y, u, v}
 use Rattle.records.specs.declared.messages.Message.{Message}
 use Rattle.records.specs.declared.messages.MessageRead.{MessageRead}
 use Rattle.records.specs.Bodies.{Values, flatBytes, flatSize}
 use Rattle.records.specs.Tables.{Row, row, Table, Read, taken, refused, flat}
 
 pub data MessageKind : Type 0 where
-  uSetup uConnect uDisconnect uRelease uInfo uTxDemand uTxCeased uCallRestore stop start configure cancel setupIndication setupConfirm proceed alert complete releaseIndication releaseConfirm txIndication modifyIndication namedPlace : MessageKind
+  uSetup uSetupSlots uConnect uDisconnect uRelease uInfo uTxDemand uTxCeased uCallRestore stop start configure cancel setupIndication setupConfirm proceed alert complete releaseIndication releaseConfirm txIndication modifyIndication namedPlace channelAnswer : MessageKind
 
 abbrev pub messageRow : MessageKind → Row
 messageRow uSetup = row 0x0501 (a₁ ∷ d ∷ q ∷ [])
+messageRow uSetupSlots = row 0x0501 (a₁ ∷ d ∷ q ∷ s ∷ [])
 messageRow uConnect = row 0x0502 (i ∷ [])
 messageRow uDisconnect = row 0x0503 (i₀ ∷ c ∷ [])
 messageRow uRelease = row 0x0504 (i₀ ∷ [])
@@ -33,13 +35,16 @@ messageRow complete = row 0x0705 (g ∷ [])
 messageRow releaseIndication = row 0x0706 (c ∷ [])
 messageRow releaseConfirm = row 0x0707 ([])
 messageRow txIndication = row 0x0708 (x ∷ [])
-messageRow modifyIndication = row 0x0709 (d ∷ [])
+messageRow modifyIndication = row 0x0709 (d ∷ s ∷ [])
 -- of document 02
 messageRow namedPlace = row 0x0605 (y ∷ [])
+messageRow channelAnswer = row 0x0606 (u ∷ v ∷ [])
 
-abbrev pub messageKinds : List MessageKind
-messageKinds =
+-- the kinds under the paper's headings: to the network; to the timers, the lower layers and the host; to the user
+abbrev pub networkKinds : List MessageKind
+networkKinds =
     uSetup ∷
+    uSetupSlots ∷
     uConnect ∷
     uDisconnect ∷
     uRelease ∷
@@ -47,10 +52,20 @@ messageKinds =
     uTxDemand ∷
     uTxCeased ∷
     uCallRestore ∷
+    []
+
+abbrev pub hostKinds : List MessageKind
+hostKinds =
     stop ∷
     start ∷
     configure ∷
     cancel ∷
+    namedPlace ∷
+    channelAnswer ∷
+    []
+
+abbrev pub toUserKinds : List MessageKind
+toUserKinds =
     setupIndication ∷
     setupConfirm ∷
     proceed ∷
@@ -60,12 +75,15 @@ messageKinds =
     releaseConfirm ∷
     txIndication ∷
     modifyIndication ∷
-    namedPlace ∷
     []
+
+abbrev pub messageKinds : List MessageKind
+messageKinds = networkKinds ++ hostKinds ++ toUserKinds
 
 -- the value that a kind's letters stand for
 abbrev pub messageOf : (kind : MessageKind) → Values (messageRow kind .letters) → Message
-messageOf uSetup v = Message.USetup (v .0) (v .1 .0) (v .1 .1 .0)
+messageOf uSetup v = Message.USetup (v .0) (v .1 .0) (v .1 .1 .0) 0
+messageOf uSetupSlots v = Message.USetup (v .0) (v .1 .0) (v .1 .1 .0) (v .1 .1 .1 .0)
 messageOf uConnect v = Message.UConnect (v .0)
 messageOf uDisconnect v = Message.UDisconnect (v .0) (v .1 .0)
 messageOf uRelease v = Message.URelease (v .0)
@@ -85,12 +103,14 @@ messageOf complete v = Message.Complete (v .0)
 messageOf releaseIndication v = Message.ReleaseIndication (v .0)
 messageOf releaseConfirm v = Message.ReleaseConfirm
 messageOf txIndication v = Message.TxIndication (v .0)
-messageOf modifyIndication v = Message.ModifyIndication (v .0)
+messageOf modifyIndication v = Message.ModifyIndication (v .0) (v .1 .0)
 messageOf namedPlace v = Message.Place (v .0)
+messageOf channelAnswer v = Message.ChannelAnswer (v .0) (v .1 .0)
 
 -- a value's kind, and its fields in the letters' order
 abbrev pub messageApart : Message → (kind : MessageKind) × Values (messageRow kind .letters)
-messageApart (Message.USetup address mode ask) = (uSetup, (address, (mode, (ask, tt))))
+messageApart (Message.USetup address mode ask zero) = (uSetup, (address, (mode, (ask, tt))))
+messageApart (Message.USetup address mode ask (suc n)) = (uSetupSlots, (address, (mode, (ask, (suc n, tt)))))
 messageApart (Message.UConnect id) = (uConnect, (id, tt))
 messageApart (Message.UDisconnect id cause) = (uDisconnect, (id, (cause, tt)))
 messageApart (Message.URelease id) = (uRelease, (id, tt))
@@ -110,15 +130,16 @@ messageApart (Message.Complete grant) = (complete, (grant, tt))
 messageApart (Message.ReleaseIndication cause) = (releaseIndication, (cause, tt))
 messageApart Message.ReleaseConfirm = (releaseConfirm, tt)
 messageApart (Message.TxIndication told) = (txIndication, (told, tt))
-messageApart (Message.ModifyIndication mode) = (modifyIndication, (mode, tt))
+messageApart (Message.ModifyIndication mode slots) = (modifyIndication, (mode, (slots, tt)))
 messageApart (Message.Place at) = (namedPlace, (at, tt))
+messageApart (Message.ChannelAnswer number verdict) = (channelAnswer, (number, (verdict, tt)))
 
 -- START's code is T310's; every other timer has 0
 unfoldable pub startAgrees : ℕ → ℕ → Bool
 startAgrees timer code = eqb timer 310 || eqb code 0
 
 abbrev pub messageAgrees : Message → Bool
-messageAgrees (Message.USetup address mode ask) = true
+messageAgrees (Message.USetup address mode ask slots) = true
 messageAgrees (Message.UConnect id) = true
 messageAgrees (Message.UDisconnect id cause) = true
 messageAgrees (Message.URelease id) = true
@@ -138,8 +159,9 @@ messageAgrees (Message.Complete grant) = true
 messageAgrees (Message.ReleaseIndication cause) = true
 messageAgrees Message.ReleaseConfirm = true
 messageAgrees (Message.TxIndication told) = true
-messageAgrees (Message.ModifyIndication mode) = true
+messageAgrees (Message.ModifyIndication mode slots) = true
 messageAgrees (Message.Place at) = true
+messageAgrees (Message.ChannelAnswer number verdict) = true
 
 abbrev pub messages : Table
 messages =

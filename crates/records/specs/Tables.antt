@@ -1,11 +1,12 @@
 -- Reading and writing by a table: each kind's number and letters, and the values that they stand for.
-use Prim.Native.Nat.{ℕ}
-use mathlib.Core.Bool.{Bool, cond, _&&_}
+use Prim.Native.Nat.{ℕ, _+_}
+use mathlib.Core.Bool.{Bool, true, false, cond, _&&_}
 use mathlib.Core.List.{List, [], _∷_}
 use mathlib.Core.Option.{Option, none, some}
 use lib.Dec.{eqb}
+use lib.ListN.{length}
 use Rattle.records.specs.Letters.{Letter}
-use Rattle.records.specs.Bodies.{Values, Flat, Found, is, badAt, Wrote, bodyOf, kindIn, flatFits, flatBytes, written}
+use Rattle.records.specs.Bodies.{Values, size, Flat, Found, is, badAt, Wrote, bodyOf, kindIn, flatFits, flatBytes, written}
 
 -- a line of a table
 pub record Row : Type 0 where
@@ -42,27 +43,49 @@ abbrev pub orPlace : {A B : Type 0} → Found A → (A → Read B) → Read B
 orPlace (is a) f = f a
 orPlace (badAt p) f = refused 4 p
 
+-- a kind of the size, or the place of the size
+abbrev pub sized : {A : Type 0} → Option A → Found A
+sized none = badAt 2
+sized (some k) = is k
+
 module _ (t : Table) where
-  -- the kind that has a number
-  abbrev pub find : ℕ → List (t .Kind) → Option (t .Kind)
-  find n [] = none
-  find n (k ∷ ks) = cond (eqb n (t .rowOf k .number)) (some k) (find n ks)
+  -- how many bytes a record of a kind has
+  abbrev pub sizeOf : t .Kind → ℕ
+  sizeOf k = 4 + size (t .rowOf k .letters)
+
+  -- whether one of some kinds has a number
+  abbrev pub known : ℕ → List (t .Kind) → Bool
+  known n [] = false
+  known n (k ∷ ks) = cond (eqb n (t .rowOf k .number)) true (known n ks)
+
+  -- the one of them that has a number and a size
+  abbrev pub find : ℕ → ℕ → List (t .Kind) → Option (t .Kind)
+  find n z [] = none
+  find n z (k ∷ ks) = cond (eqb n (t .rowOf k .number) && eqb z (sizeOf k)) (some k) (find n z ks)
 
   unfoldable pub readBody : t .Kind → List ℕ → Read (t .Value)
   readBody k s =
       orPlace (bodyOf (t .rowOf k .letters) s)
       (λ vs. cond (t .agrees (t .valueOf k vs)) (taken (t .valueOf k vs)) (refused 4 (t .clash)))
 
+  -- the record of one of some kinds by its number: 3 where none of them has it; else 4 at place 2 where none of those that have it has the size
+  unfoldable pub readAmong : List (t .Kind) → ℕ → List ℕ → Read (t .Value)
+  readAmong ks n s = cond (known n ks) (orPlace (sized (find n (length s) ks)) (λ k. readBody k s)) (refused 3 0)
+
   -- the record of a kind by its number
   unfoldable pub readAs : ℕ → List ℕ → Read (t .Value)
-  readAs n s = orRefuse 3 (find n (t .kinds)) (λ k. readBody k s)
+  readAs n s = readAmong (t .kinds) n s
 
   -- 2 for the length, 3 for the kind, 4 for the body: the lowest that applies
   unfoldable pub read : List ℕ → Read (t .Value)
   read s = orRefuse 2 (kindIn s) (λ n. readAs n s)
 
+  -- a kind with its values, and a value, as letters
+  abbrev pub flatOf : (k : t .Kind) → Values (t .rowOf k .letters) → Flat
+  flatOf k vs = record { kind = t .rowOf k .number; letters = t .rowOf k .letters; values = vs }
+
   abbrev pub flat : t .Value → Flat
-  flat v = record { kind = t .rowOf (t .apart v .0) .number; letters = t .rowOf (t .apart v .0) .letters; values = t .apart v .1 }
+  flat v = flatOf (t .apart v .0) (t .apart v .1)
 
   unfoldable pub fine : t .Value → Bool
   fine v = flatFits (flat v) && t .agrees v

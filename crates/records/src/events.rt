@@ -1,10 +1,10 @@
 // What comes in: from the user, the network, the lower layers and the timers, read from bytes and written into a lent buffer.
 ghost use mathlib.Core.Path.{_≡_};
-ghost use mathlib.Core.List.{List};
+ghost use mathlib.Core.List.{List, _++_};
 ghost use Prim.Native.Nat.{ℕ};
 ghost use Rattle.records.specs.Bodies.{Wrote, asWrote, flatBytes, laid, laidNext};
-ghost use Rattle.records.specs.Tables.{read, readAs, flat, fine, write};
-ghost use Rattle.records.specs.Events.{events, asEventRead};
+ghost use Rattle.records.specs.Tables.{readBody, readAmong, read, flatOf, flat, fine, write};
+ghost use Rattle.records.specs.Events.{events, setupRequestSlots, dConnectSlots, dInfoSlots, eventKinds, setupKinds, callKinds, lowerKinds, asEventRead};
 use crate::bodies::Head;
 use crate::bodies::Written;
 use crate::bodies::kind_in;
@@ -13,7 +13,6 @@ use crate::fields::LongField;
 use crate::fields::WordField;
 use crate::fields::byte_in;
 use crate::fields::long_in;
-use crate::fields::put_byte;
 use crate::fields::put_head;
 use crate::fields::put_long;
 use crate::fields::put_word;
@@ -23,6 +22,7 @@ use crate::letters::Long;
 use crate::letters::Word;
 use crate::letters::byte_fits;
 use crate::letters::long_fits;
+use crate::letters::slots_fit;
 use crate::letters::word_fits;
 
 pub enum Event {
@@ -31,6 +31,8 @@ pub enum Event {
         address: u32,
         mode: u8,
         ask: u8,
+        // 0 where the body carries none
+        slots: u8,
     },
     // 0102 SETUP response. The user takes the call that was indicated.
     SetupResponse,
@@ -58,6 +60,8 @@ pub enum Event {
         grant: u8,
         mode: u8,
         code: u8,
+        // 0 where the body carries none
+        slots: u8,
     },
     // 0204 D-CONNECT ACKNOWLEDGE. The call that was taken is connected.
     DConnectAcknowledge {
@@ -71,12 +75,14 @@ pub enum Event {
         address: u32,
         mode: u8,
     },
-    // 0206 D-INFO. The network gives the mode, and may start T310 anew.
+    // 0206 D-INFO. The network gives the mode, may give the slots, and may start T310 anew.
     DInfo {
         id: u16,
         reset: u8,
         code: u8,
         mode: u8,
+        // 0 where the body carries none
+        slots: u8,
     },
     // 0207 D-TX GRANTED. The answer to a demand, or another party transmits.
     DTxGranted {
@@ -138,150 +144,142 @@ pub enum EventRead {
     BadBody(u8),
 }
 
-// The record of a kind by its number.
-fn read_kind(kind: u16, s: &[u8]) -> EventRead
-    ensures { λ r. ⌜ asEventRead r ≡ readAs events kind (now (s .entry)) ⌝ }
+// SETUP request a d q s.
+fn read_setup_request_slots(s: &[u8]) -> EventRead
+    ensures { λ r. ⌜ asEventRead r ≡ readBody events setupRequestSlots (now (s .entry)) ⌝ }
+{
+    if s.len() != 11 {
+        return EventRead::BadBody(2);
+    }
+    let LongField::Is(address) = long_in(s, 4, Long::A1) else {
+        return EventRead::BadBody(4);
+    };
+    let ByteField::Is(mode) = byte_in(s, 8, Byte::D) else {
+        return EventRead::BadBody(8);
+    };
+    let ByteField::Is(ask) = byte_in(s, 9, Byte::Q) else {
+        return EventRead::BadBody(9);
+    };
+    let ByteField::Is(slots) = byte_in(s, 10, Byte::S) else {
+        return EventRead::BadBody(10);
+    };
+    EventRead::Is(Event::SetupRequest {
+        address,
+        mode,
+        ask,
+        slots,
+    })
+}
+
+// D-CONNECT i g d o s.
+fn read_d_connect_slots(s: &[u8]) -> EventRead
+    ensures { λ r. ⌜ asEventRead r ≡ readBody events dConnectSlots (now (s .entry)) ⌝ }
+{
+    if s.len() != 10 {
+        return EventRead::BadBody(2);
+    }
+    let WordField::Is(id) = word_in(s, 4, Word::I) else {
+        return EventRead::BadBody(4);
+    };
+    let ByteField::Is(grant) = byte_in(s, 6, Byte::G) else {
+        return EventRead::BadBody(6);
+    };
+    let ByteField::Is(mode) = byte_in(s, 7, Byte::D) else {
+        return EventRead::BadBody(7);
+    };
+    let ByteField::Is(code) = byte_in(s, 8, Byte::O) else {
+        return EventRead::BadBody(8);
+    };
+    let ByteField::Is(slots) = byte_in(s, 9, Byte::S) else {
+        return EventRead::BadBody(9);
+    };
+    EventRead::Is(Event::DConnect {
+        id,
+        grant,
+        mode,
+        code,
+        slots,
+    })
+}
+
+// D-INFO i r o d s.
+fn read_d_info_slots(s: &[u8]) -> EventRead
+    ensures { λ r. ⌜ asEventRead r ≡ readBody events dInfoSlots (now (s .entry)) ⌝ }
+{
+    if s.len() != 10 {
+        return EventRead::BadBody(2);
+    }
+    let WordField::Is(id) = word_in(s, 4, Word::I) else {
+        return EventRead::BadBody(4);
+    };
+    let ByteField::Is(reset) = byte_in(s, 6, Byte::R) else {
+        return EventRead::BadBody(6);
+    };
+    let ByteField::Is(code) = byte_in(s, 7, Byte::O16) else {
+        return EventRead::BadBody(7);
+    };
+    let ByteField::Is(mode) = byte_in(s, 8, Byte::D) else {
+        return EventRead::BadBody(8);
+    };
+    let ByteField::Is(slots) = byte_in(s, 9, Byte::S) else {
+        return EventRead::BadBody(9);
+    };
+    EventRead::Is(Event::DInfo {
+        id,
+        reset,
+        code,
+        mode,
+        slots,
+    })
+}
+
+// Those from the lower layers and the timers.
+fn read_lower(kind: u16, s: &[u8]) -> EventRead
+    ensures { λ r. ⌜ asEventRead r ≡ readAmong events lowerKinds kind (now (s .entry)) ⌝ }
 {
     match kind {
-        0x0101 => { // SETUP request a d q
-            if s.len() != 10 {
-                return EventRead::BadBody(2);
-            }
-            let LongField::Is(address) = long_in(s, 4, Long::A1) else {
-                return EventRead::BadBody(4);
-            };
-            let ByteField::Is(mode) = byte_in(s, 8, Byte::D) else {
-                return EventRead::BadBody(8);
-            };
-            let ByteField::Is(ask) = byte_in(s, 9, Byte::Q) else {
-                return EventRead::BadBody(9);
-            };
-            EventRead::Is(Event::SetupRequest { address, mode, ask })
-        }
-        0x0102 => { // SETUP response
+        0x0301 => { // REPORT sent
             if s.len() != 4 {
                 return EventRead::BadBody(2);
             }
-            EventRead::Is(Event::SetupResponse)
+            EventRead::Is(Event::ReportSent)
         }
-        0x0103 => { // RELEASE request
+        0x0302 => { // REPORT failed
             if s.len() != 4 {
                 return EventRead::BadBody(2);
             }
-            EventRead::Is(Event::ReleaseRequest)
+            EventRead::Is(Event::ReportFailed)
         }
-        0x0104 => { // TX request k
-            if s.len() != 5 {
+        0x0303 => { // BREAK
+            if s.len() != 4 {
                 return EventRead::BadBody(2);
             }
-            let ByteField::Is(go) = byte_in(s, 4, Byte::K) else {
-                return EventRead::BadBody(4);
-            };
-            EventRead::Is(Event::TxRequest { go })
+            EventRead::Is(Event::Break)
         }
-        0x0105 => { // MODIFY request d
-            if s.len() != 5 {
+        0x0304 => { // RESUME
+            if s.len() != 4 {
                 return EventRead::BadBody(2);
             }
-            let ByteField::Is(mode) = byte_in(s, 4, Byte::D) else {
-                return EventRead::BadBody(4);
-            };
-            EventRead::Is(Event::ModifyRequest { mode })
+            EventRead::Is(Event::Resume)
         }
-        0x0201 => { // D-CALL PROCEEDING i
+        0x0401 => { // expiry n
             if s.len() != 6 {
                 return EventRead::BadBody(2);
             }
-            let WordField::Is(id) = word_in(s, 4, Word::I) else {
+            let WordField::Is(timer) = word_in(s, 4, Word::N) else {
                 return EventRead::BadBody(4);
             };
-            EventRead::Is(Event::DCallProceeding { id })
+            EventRead::Is(Event::Expiry { timer })
         }
-        0x0202 => { // D-ALERT i
-            if s.len() != 6 {
-                return EventRead::BadBody(2);
-            }
-            let WordField::Is(id) = word_in(s, 4, Word::I) else {
-                return EventRead::BadBody(4);
-            };
-            EventRead::Is(Event::DAlert { id })
-        }
-        0x0203 => { // D-CONNECT i g d o
-            if s.len() != 9 {
-                return EventRead::BadBody(2);
-            }
-            let WordField::Is(id) = word_in(s, 4, Word::I) else {
-                return EventRead::BadBody(4);
-            };
-            let ByteField::Is(grant) = byte_in(s, 6, Byte::G) else {
-                return EventRead::BadBody(6);
-            };
-            let ByteField::Is(mode) = byte_in(s, 7, Byte::D) else {
-                return EventRead::BadBody(7);
-            };
-            let ByteField::Is(code) = byte_in(s, 8, Byte::O) else {
-                return EventRead::BadBody(8);
-            };
-            EventRead::Is(Event::DConnect {
-                id,
-                grant,
-                mode,
-                code,
-            })
-        }
-        0x0204 => { // D-CONNECT ACKNOWLEDGE i g o
-            if s.len() != 8 {
-                return EventRead::BadBody(2);
-            }
-            let WordField::Is(id) = word_in(s, 4, Word::I) else {
-                return EventRead::BadBody(4);
-            };
-            let ByteField::Is(grant) = byte_in(s, 6, Byte::G) else {
-                return EventRead::BadBody(6);
-            };
-            let ByteField::Is(code) = byte_in(s, 7, Byte::O) else {
-                return EventRead::BadBody(7);
-            };
-            EventRead::Is(Event::DConnectAcknowledge { id, grant, code })
-        }
-        0x0205 => { // D-SETUP i a d
-            if s.len() != 11 {
-                return EventRead::BadBody(2);
-            }
-            let WordField::Is(id) = word_in(s, 4, Word::I) else {
-                return EventRead::BadBody(4);
-            };
-            let LongField::Is(address) = long_in(s, 6, Long::A) else {
-                return EventRead::BadBody(6);
-            };
-            let ByteField::Is(mode) = byte_in(s, 10, Byte::D) else {
-                return EventRead::BadBody(10);
-            };
-            EventRead::Is(Event::DSetup { id, address, mode })
-        }
-        0x0206 => { // D-INFO i r o d
-            if s.len() != 9 {
-                return EventRead::BadBody(2);
-            }
-            let WordField::Is(id) = word_in(s, 4, Word::I) else {
-                return EventRead::BadBody(4);
-            };
-            let ByteField::Is(reset) = byte_in(s, 6, Byte::R) else {
-                return EventRead::BadBody(6);
-            };
-            let ByteField::Is(code) = byte_in(s, 7, Byte::O16) else {
-                return EventRead::BadBody(7);
-            };
-            let ByteField::Is(mode) = byte_in(s, 8, Byte::D) else {
-                return EventRead::BadBody(8);
-            };
-            EventRead::Is(Event::DInfo {
-                id,
-                reset,
-                code,
-                mode,
-            })
-        }
+        _ => EventRead::UnknownKind,
+    }
+}
+
+// Those from the network within a call, and its end, and then the others.
+fn read_call(kind: u16, s: &[u8]) -> EventRead
+    ensures { λ r. ⌜ asEventRead r ≡ readAmong events (callKinds ++ lowerKinds) kind (now (s .entry)) ⌝ }
+{
+    match kind {
         0x0207 => { // D-TX GRANTED i g
             if s.len() != 7 {
                 return EventRead::BadBody(2);
@@ -377,40 +375,180 @@ fn read_kind(kind: u16, s: &[u8]) -> EventRead
             };
             EventRead::Is(Event::DRelease { id })
         }
-        0x0301 => { // REPORT sent
-            if s.len() != 4 {
-                return EventRead::BadBody(2);
-            }
-            EventRead::Is(Event::ReportSent)
-        }
-        0x0302 => { // REPORT failed
-            if s.len() != 4 {
-                return EventRead::BadBody(2);
-            }
-            EventRead::Is(Event::ReportFailed)
-        }
-        0x0303 => { // BREAK
-            if s.len() != 4 {
-                return EventRead::BadBody(2);
-            }
-            EventRead::Is(Event::Break)
-        }
-        0x0304 => { // RESUME
-            if s.len() != 4 {
-                return EventRead::BadBody(2);
-            }
-            EventRead::Is(Event::Resume)
-        }
-        0x0401 => { // expiry n
+        _ => read_lower(kind, s),
+    }
+}
+
+// Those from the network that set a call up or change it, and then the others.
+fn read_setup(kind: u16, s: &[u8]) -> EventRead
+    ensures { λ r. ⌜ asEventRead r ≡ readAmong events (setupKinds ++ callKinds ++ lowerKinds) kind (now (s .entry)) ⌝ }
+{
+    match kind {
+        0x0201 => { // D-CALL PROCEEDING i
             if s.len() != 6 {
                 return EventRead::BadBody(2);
             }
-            let WordField::Is(timer) = word_in(s, 4, Word::N) else {
+            let WordField::Is(id) = word_in(s, 4, Word::I) else {
                 return EventRead::BadBody(4);
             };
-            EventRead::Is(Event::Expiry { timer })
+            EventRead::Is(Event::DCallProceeding { id })
         }
-        _ => EventRead::UnknownKind,
+        0x0202 => { // D-ALERT i
+            if s.len() != 6 {
+                return EventRead::BadBody(2);
+            }
+            let WordField::Is(id) = word_in(s, 4, Word::I) else {
+                return EventRead::BadBody(4);
+            };
+            EventRead::Is(Event::DAlert { id })
+        }
+        0x0203 => { // D-CONNECT i g d o, or with s behind them
+            if s.len() == 10 {
+                return read_d_connect_slots(s);
+            }
+            if s.len() != 9 {
+                return EventRead::BadBody(2);
+            }
+            let WordField::Is(id) = word_in(s, 4, Word::I) else {
+                return EventRead::BadBody(4);
+            };
+            let ByteField::Is(grant) = byte_in(s, 6, Byte::G) else {
+                return EventRead::BadBody(6);
+            };
+            let ByteField::Is(mode) = byte_in(s, 7, Byte::D) else {
+                return EventRead::BadBody(7);
+            };
+            let ByteField::Is(code) = byte_in(s, 8, Byte::O) else {
+                return EventRead::BadBody(8);
+            };
+            EventRead::Is(Event::DConnect {
+                id,
+                grant,
+                mode,
+                code,
+                slots: 0,
+            })
+        }
+        0x0204 => { // D-CONNECT ACKNOWLEDGE i g o
+            if s.len() != 8 {
+                return EventRead::BadBody(2);
+            }
+            let WordField::Is(id) = word_in(s, 4, Word::I) else {
+                return EventRead::BadBody(4);
+            };
+            let ByteField::Is(grant) = byte_in(s, 6, Byte::G) else {
+                return EventRead::BadBody(6);
+            };
+            let ByteField::Is(code) = byte_in(s, 7, Byte::O) else {
+                return EventRead::BadBody(7);
+            };
+            EventRead::Is(Event::DConnectAcknowledge { id, grant, code })
+        }
+        0x0205 => { // D-SETUP i a d
+            if s.len() != 11 {
+                return EventRead::BadBody(2);
+            }
+            let WordField::Is(id) = word_in(s, 4, Word::I) else {
+                return EventRead::BadBody(4);
+            };
+            let LongField::Is(address) = long_in(s, 6, Long::A) else {
+                return EventRead::BadBody(6);
+            };
+            let ByteField::Is(mode) = byte_in(s, 10, Byte::D) else {
+                return EventRead::BadBody(10);
+            };
+            EventRead::Is(Event::DSetup { id, address, mode })
+        }
+        0x0206 => { // D-INFO i r o d, or with s behind them
+            if s.len() == 10 {
+                return read_d_info_slots(s);
+            }
+            if s.len() != 9 {
+                return EventRead::BadBody(2);
+            }
+            let WordField::Is(id) = word_in(s, 4, Word::I) else {
+                return EventRead::BadBody(4);
+            };
+            let ByteField::Is(reset) = byte_in(s, 6, Byte::R) else {
+                return EventRead::BadBody(6);
+            };
+            let ByteField::Is(code) = byte_in(s, 7, Byte::O16) else {
+                return EventRead::BadBody(7);
+            };
+            let ByteField::Is(mode) = byte_in(s, 8, Byte::D) else {
+                return EventRead::BadBody(8);
+            };
+            EventRead::Is(Event::DInfo {
+                id,
+                reset,
+                code,
+                mode,
+                slots: 0,
+            })
+        }
+        _ => read_call(kind, s),
+    }
+}
+
+// Those from the user, and where the kind is none of them the others.
+fn read_user(kind: u16, s: &[u8]) -> EventRead
+    ensures { λ r. ⌜ asEventRead r ≡ readAmong events eventKinds kind (now (s .entry)) ⌝ }
+{
+    match kind {
+        0x0101 => { // SETUP request a d q, or with s behind them
+            if s.len() == 11 {
+                return read_setup_request_slots(s);
+            }
+            if s.len() != 10 {
+                return EventRead::BadBody(2);
+            }
+            let LongField::Is(address) = long_in(s, 4, Long::A1) else {
+                return EventRead::BadBody(4);
+            };
+            let ByteField::Is(mode) = byte_in(s, 8, Byte::D) else {
+                return EventRead::BadBody(8);
+            };
+            let ByteField::Is(ask) = byte_in(s, 9, Byte::Q) else {
+                return EventRead::BadBody(9);
+            };
+            EventRead::Is(Event::SetupRequest {
+                address,
+                mode,
+                ask,
+                slots: 0,
+            })
+        }
+        0x0102 => { // SETUP response
+            if s.len() != 4 {
+                return EventRead::BadBody(2);
+            }
+            EventRead::Is(Event::SetupResponse)
+        }
+        0x0103 => { // RELEASE request
+            if s.len() != 4 {
+                return EventRead::BadBody(2);
+            }
+            EventRead::Is(Event::ReleaseRequest)
+        }
+        0x0104 => { // TX request k
+            if s.len() != 5 {
+                return EventRead::BadBody(2);
+            }
+            let ByteField::Is(go) = byte_in(s, 4, Byte::K) else {
+                return EventRead::BadBody(4);
+            };
+            EventRead::Is(Event::TxRequest { go })
+        }
+        0x0105 => { // MODIFY request d
+            if s.len() != 5 {
+                return EventRead::BadBody(2);
+            }
+            let ByteField::Is(mode) = byte_in(s, 4, Byte::D) else {
+                return EventRead::BadBody(4);
+            };
+            EventRead::Is(Event::ModifyRequest { mode })
+        }
+        _ => read_setup(kind, s),
     }
 }
 
@@ -421,7 +559,54 @@ pub fn read_event(s: &[u8]) -> EventRead
     let Head::Kind(kind) = kind_in(s) else {
         return EventRead::BadLength;
     };
-    read_kind(kind, s)
+    read_user(kind, s)
+}
+
+// SETUP request a d q s, stored as below.
+fn put_setup_request_slots(address: u32, mode: u8, ask: u8, slots: u8, out: &mut [u8]) -> usize
+    ensures { λ r. ⌜ _≡_ {A = ℕ × List ℕ} (r, now (out .exit)) (laidNext (flatBytes (flatOf events setupRequestSlots (address, (mode, (ask, (slots, tt)))))) (now (out .entry)) 0, laid (flatBytes (flatOf events setupRequestSlots (address, (mode, (ask, (slots, tt)))))) (now (out .entry)) 0) ⌝ }
+{
+    if out.len() < 11 {
+        return 0;
+    }
+    put_head(out, 11, 0x0101);
+    put_long(out, 4, address);
+    out[8] = mode;
+    out[9] = ask;
+    out[10] = slots;
+    11
+}
+
+// D-CONNECT i g d o s, stored as below.
+fn put_d_connect_slots(id: u16, grant: u8, mode: u8, code: u8, slots: u8, out: &mut [u8]) -> usize
+    ensures { λ r. ⌜ _≡_ {A = ℕ × List ℕ} (r, now (out .exit)) (laidNext (flatBytes (flatOf events dConnectSlots (id, (grant, (mode, (code, (slots, tt))))))) (now (out .entry)) 0, laid (flatBytes (flatOf events dConnectSlots (id, (grant, (mode, (code, (slots, tt))))))) (now (out .entry)) 0) ⌝ }
+{
+    if out.len() < 10 {
+        return 0;
+    }
+    put_head(out, 10, 0x0203);
+    put_word(out, 4, id);
+    out[6] = grant;
+    out[7] = mode;
+    out[8] = code;
+    out[9] = slots;
+    10
+}
+
+// D-INFO i r o d s, stored as below.
+fn put_d_info_slots(id: u16, reset: u8, code: u8, mode: u8, slots: u8, out: &mut [u8]) -> usize
+    ensures { λ r. ⌜ _≡_ {A = ℕ × List ℕ} (r, now (out .exit)) (laidNext (flatBytes (flatOf events dInfoSlots (id, (reset, (code, (mode, (slots, tt))))))) (now (out .entry)) 0, laid (flatBytes (flatOf events dInfoSlots (id, (reset, (code, (mode, (slots, tt))))))) (now (out .entry)) 0) ⌝ }
+{
+    if out.len() < 10 {
+        return 0;
+    }
+    put_head(out, 10, 0x0206);
+    put_word(out, 4, id);
+    out[6] = reset;
+    out[7] = code;
+    out[8] = mode;
+    out[9] = slots;
+    10
 }
 
 // Stores an event at the front of a buffer where it fits, whatever its values, and answers how many bytes it took: 0 where it does not fit.
@@ -429,14 +614,22 @@ fn put_event(e: Event, out: &mut [u8]) -> usize
     ensures { λ r. ⌜ _≡_ {A = ℕ × List ℕ} (r, now (out .exit)) (laidNext (flatBytes (flat events e)) (now (out .entry)) 0, laid (flatBytes (flat events e)) (now (out .entry)) 0) ⌝ }
 {
     match e {
-        Event::SetupRequest { address, mode, ask } => { // SETUP request a d q
+        Event::SetupRequest {
+            address,
+            mode,
+            ask,
+            slots,
+        } => { // SETUP request a d q, or with s behind them
+            if slots != 0 {
+                return put_setup_request_slots(address, mode, ask, slots, out);
+            }
             if out.len() < 10 {
                 return 0;
             }
             put_head(out, 10, 0x0101);
             put_long(out, 4, address);
-            put_byte(out, 8, mode);
-            put_byte(out, 9, ask);
+            out[8] = mode;
+            out[9] = ask;
             10
         }
         Event::SetupResponse => { // SETUP response
@@ -458,7 +651,7 @@ fn put_event(e: Event, out: &mut [u8]) -> usize
                 return 0;
             }
             put_head(out, 5, 0x0104);
-            put_byte(out, 4, go);
+            out[4] = go;
             5
         }
         Event::ModifyRequest { mode } => { // MODIFY request d
@@ -466,7 +659,7 @@ fn put_event(e: Event, out: &mut [u8]) -> usize
                 return 0;
             }
             put_head(out, 5, 0x0105);
-            put_byte(out, 4, mode);
+            out[4] = mode;
             5
         }
         Event::DCallProceeding { id } => { // D-CALL PROCEEDING i
@@ -490,15 +683,19 @@ fn put_event(e: Event, out: &mut [u8]) -> usize
             grant,
             mode,
             code,
-        } => { // D-CONNECT i g d o
+            slots,
+        } => { // D-CONNECT i g d o, or with s behind them
+            if slots != 0 {
+                return put_d_connect_slots(id, grant, mode, code, slots, out);
+            }
             if out.len() < 9 {
                 return 0;
             }
             put_head(out, 9, 0x0203);
             put_word(out, 4, id);
-            put_byte(out, 6, grant);
-            put_byte(out, 7, mode);
-            put_byte(out, 8, code);
+            out[6] = grant;
+            out[7] = mode;
+            out[8] = code;
             9
         }
         Event::DConnectAcknowledge { id, grant, code } => { // D-CONNECT ACKNOWLEDGE i g o
@@ -507,8 +704,8 @@ fn put_event(e: Event, out: &mut [u8]) -> usize
             }
             put_head(out, 8, 0x0204);
             put_word(out, 4, id);
-            put_byte(out, 6, grant);
-            put_byte(out, 7, code);
+            out[6] = grant;
+            out[7] = code;
             8
         }
         Event::DSetup { id, address, mode } => { // D-SETUP i a d
@@ -518,7 +715,7 @@ fn put_event(e: Event, out: &mut [u8]) -> usize
             put_head(out, 11, 0x0205);
             put_word(out, 4, id);
             put_long(out, 6, address);
-            put_byte(out, 10, mode);
+            out[10] = mode;
             11
         }
         Event::DInfo {
@@ -526,15 +723,19 @@ fn put_event(e: Event, out: &mut [u8]) -> usize
             reset,
             code,
             mode,
-        } => { // D-INFO i r o d
+            slots,
+        } => { // D-INFO i r o d, or with s behind them
+            if slots != 0 {
+                return put_d_info_slots(id, reset, code, mode, slots, out);
+            }
             if out.len() < 9 {
                 return 0;
             }
             put_head(out, 9, 0x0206);
             put_word(out, 4, id);
-            put_byte(out, 6, reset);
-            put_byte(out, 7, code);
-            put_byte(out, 8, mode);
+            out[6] = reset;
+            out[7] = code;
+            out[8] = mode;
             9
         }
         Event::DTxGranted { id, grant } => { // D-TX GRANTED i g
@@ -543,7 +744,7 @@ fn put_event(e: Event, out: &mut [u8]) -> usize
             }
             put_head(out, 7, 0x0207);
             put_word(out, 4, id);
-            put_byte(out, 6, grant);
+            out[6] = grant;
             7
         }
         Event::DTxCeased { id } => { // D-TX CEASED i
@@ -560,7 +761,7 @@ fn put_event(e: Event, out: &mut [u8]) -> usize
             }
             put_head(out, 7, 0x0209);
             put_word(out, 4, id);
-            put_byte(out, 6, grant);
+            out[6] = grant;
             7
         }
         Event::DTxWait { id } => { // D-TX WAIT i
@@ -577,7 +778,7 @@ fn put_event(e: Event, out: &mut [u8]) -> usize
             }
             put_head(out, 7, 0x020B);
             put_word(out, 4, id);
-            put_byte(out, 6, go);
+            out[6] = go;
             7
         }
         Event::DCallRestore {
@@ -591,9 +792,9 @@ fn put_event(e: Event, out: &mut [u8]) -> usize
             }
             put_head(out, 9, 0x020C);
             put_word(out, 4, id);
-            put_byte(out, 6, grant);
-            put_byte(out, 7, reset);
-            put_byte(out, 8, code);
+            out[6] = grant;
+            out[7] = reset;
+            out[8] = code;
             9
         }
         Event::DDisconnect { id } => { // D-DISCONNECT i
@@ -656,8 +857,14 @@ fn event_fits(e: Event) -> bool
     ensures { λ r. ⌜ r ≡ fine events e ⌝ }
 {
     match e {
-        Event::SetupRequest { address, mode, ask } => { // SETUP request a d q
-            long_fits(Long::A1, address) & (byte_fits(Byte::D, mode) & byte_fits(Byte::Q, ask))
+        Event::SetupRequest {
+            address,
+            mode,
+            ask,
+            slots,
+        } => { // SETUP request a d q, or with s behind them
+            long_fits(Long::A1, address)
+                & (byte_fits(Byte::D, mode) & (byte_fits(Byte::Q, ask) & slots_fit(slots)))
         }
         Event::SetupResponse => true, // SETUP response
         Event::ReleaseRequest => true, // RELEASE request
@@ -670,10 +877,11 @@ fn event_fits(e: Event) -> bool
             grant,
             mode,
             code,
-        } => { // D-CONNECT i g d o
+            slots,
+        } => { // D-CONNECT i g d o, or with s behind them
             word_fits(Word::I, id)
                 & (byte_fits(Byte::G, grant)
-                    & (byte_fits(Byte::D, mode) & byte_fits(Byte::O, code)))
+                    & (byte_fits(Byte::D, mode) & (byte_fits(Byte::O, code) & slots_fit(slots))))
         }
         Event::DConnectAcknowledge { id, grant, code } => { // D-CONNECT ACKNOWLEDGE i g o
             word_fits(Word::I, id) & (byte_fits(Byte::G, grant) & byte_fits(Byte::O, code))
@@ -686,10 +894,11 @@ fn event_fits(e: Event) -> bool
             reset,
             code,
             mode,
-        } => { // D-INFO i r o d
+            slots,
+        } => { // D-INFO i r o d, or with s behind them
             word_fits(Word::I, id)
                 & (byte_fits(Byte::R, reset)
-                    & (byte_fits(Byte::O16, code) & byte_fits(Byte::D, mode)))
+                    & (byte_fits(Byte::O16, code) & (byte_fits(Byte::D, mode) & slots_fit(slots))))
         }
         Event::DTxGranted { id, grant } => { // D-TX GRANTED i g
             word_fits(Word::I, id) & byte_fits(Byte::G, grant)
@@ -699,9 +908,7 @@ fn event_fits(e: Event) -> bool
             word_fits(Word::I, id) & byte_fits(Byte::G, grant)
         }
         Event::DTxWait { id } => word_fits(Word::I, id), // D-TX WAIT i
-        Event::DTxContinue { id, go } => { // D-TX CONTINUE i k
-            word_fits(Word::I, id) & byte_fits(Byte::K, go)
-        }
+        Event::DTxContinue { id, go } => word_fits(Word::I, id) & byte_fits(Byte::K, go), // D-TX CONTINUE i k
         Event::DCallRestore {
             id,
             grant,

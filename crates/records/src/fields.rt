@@ -83,14 +83,6 @@ pub fn long_in(s: &[u8], at: usize, letter: Long) -> LongField
 
 // Each stores at a position and answers the next one.
 
-pub fn put_byte(out: &mut [u8], at: usize, v: u8) -> usize
-    requires { ⌜ at < length (now out) ⌝ }
-    ensures { λ r. ⌜ Stored (now (out .entry)) at (bytes 1 v) r (now (out .exit)) ⌝ }
-{
-    out[at] = v;
-    at + 1
-}
-
 pub fn put_word(out: &mut [u8], at: usize, v: u16) -> usize
     requires { ⌜ at + 2 ≤ length (now out) ⌝ }
     ensures { λ r. ⌜ Stored (now (out .entry)) at (bytes 2 v) r (now (out .exit)) ⌝ }

@@ -1,6 +1,6 @@
 // The letters of a record's body, by their width, and the numbers that each may stand for.
 ghost use mathlib.Core.Path.{_≡_};
-ghost use Rattle.records.specs.Letters.{spanOf, within, isTimer, fits, Letter};
+ghost use Rattle.records.specs.Letters.{spanOf, within, isTimer, isDirectTimer, fits, slotsFit, Letter};
 
 // Letters of one byte.
 pub enum Byte {
@@ -24,8 +24,14 @@ pub enum Byte {
     P,
     // What TX indication tells, 0 to 8.
     X,
+    // Slots per frame, 1 to 4.
+    S,
     // A place of the console, 0 to 7.
     Y,
+    // Verdict on a channel allocation: 0 accept, 1 reject, 2 ignore. DMA-REPORT: 0 sent, 1 busy, 2 unknown.
+    V,
+    // Any byte: grades of service and attempts, of direct mode.
+    Any,
 }
 
 // Letters of two bytes.
@@ -36,6 +42,10 @@ pub enum Word {
     I0,
     // Timer, one of seven.
     N,
+    // Number of a question, 0 to 65535.
+    U,
+    // Timer of direct mode, 303 or 311.
+    N2,
 }
 
 // Letters of four bytes.
@@ -66,7 +76,13 @@ fn span_of(letter: Byte) -> Span
         Byte::C => Span { least: 1, most: 4 },
         Byte::P => Span { least: 1, most: 4 },
         Byte::X => Span { least: 0, most: 8 },
+        Byte::S => Span { least: 1, most: 4 },
         Byte::Y => Span { least: 0, most: 7 },
+        Byte::V => Span { least: 0, most: 2 },
+        Byte::Any => Span {
+            least: 0,
+            most: 255,
+        },
     }
 }
 
@@ -94,6 +110,16 @@ fn is_timer(v: u16) -> bool
     }
 }
 
+fn is_direct_timer(v: u16) -> bool
+    ensures { λ r. ⌜ r ≡ isDirectTimer v ⌝ }
+{
+    match v {
+        303 => true,
+        311 => true,
+        _ => false,
+    }
+}
+
 // Whether a letter may stand for a number, at each width.
 
 pub fn byte_fits(letter: Byte, v: u8) -> bool
@@ -103,6 +129,16 @@ pub fn byte_fits(letter: Byte, v: u8) -> bool
     within(span.least as u32, span.most as u32, v as u32)
 }
 
+// Whether slots at the end of a body may be so: 0 where the body carries none.
+pub fn slots_fit(slots: u8) -> bool
+    ensures { λ r. ⌜ r ≡ slotsFit slots ⌝ }
+{
+    if slots == 0 {
+        return true;
+    }
+    byte_fits(Byte::S, slots)
+}
+
 pub fn word_fits(letter: Word, v: u16) -> bool
     ensures { λ r. ⌜ r ≡ fits (Letter.word letter) v ⌝ }
 {
@@ -110,6 +146,8 @@ pub fn word_fits(letter: Word, v: u16) -> bool
         Word::I => within(1, 16383, v as u32),
         Word::I0 => within(0, 16383, v as u32),
         Word::N => is_timer(v),
+        Word::U => within(0, 65535, v as u32),
+        Word::N2 => is_direct_timer(v),
     }
 }
 

@@ -1,10 +1,10 @@
 // What goes out: to the network, the timers, the lower layers and the user, read from bytes and written into a lent buffer.
 ghost use mathlib.Core.Path.{_≡_};
-ghost use mathlib.Core.List.{List};
+ghost use mathlib.Core.List.{List, _++_};
 ghost use Prim.Native.Nat.{ℕ};
-ghost use Rattle.records.specs.Bodies.{Wrote, asWrote, laid, laidNext};
-ghost use Rattle.records.specs.Tables.{read, readAs, fine, write};
-ghost use Rattle.records.specs.Messages.{messages, asMessageRead, startAgrees, messageBytes, messageSize};
+ghost use Rattle.records.specs.Bodies.{Wrote, asWrote, flatBytes, laid, laidNext};
+ghost use Rattle.records.specs.Tables.{readBody, readAmong, read, flatOf, fine, write};
+ghost use Rattle.records.specs.Messages.{messages, uSetupSlots, messageKinds, hostKinds, toUserKinds, asMessageRead, startAgrees, messageBytes, messageSize};
 use crate::bodies::Head;
 use crate::bodies::Written;
 use crate::bodies::kind_in;
@@ -13,7 +13,6 @@ use crate::fields::LongField;
 use crate::fields::WordField;
 use crate::fields::byte_in;
 use crate::fields::long_in;
-use crate::fields::put_byte;
 use crate::fields::put_head;
 use crate::fields::put_long;
 use crate::fields::put_word;
@@ -23,53 +22,108 @@ use crate::letters::Long;
 use crate::letters::Word;
 use crate::letters::byte_fits;
 use crate::letters::long_fits;
+use crate::letters::slots_fit;
 use crate::letters::word_fits;
 
 pub enum Message {
     // 0501 U-SETUP. Asks the network for a call.
-    USetup { address: u32, mode: u8, ask: u8 },
+    USetup {
+        address: u32,
+        mode: u8,
+        ask: u8,
+        // 0 where the body carries none
+        slots: u8,
+    },
     // 0502 U-CONNECT. Takes a call.
-    UConnect { id: u16 },
+    UConnect {
+        id: u16,
+    },
     // 0503 U-DISCONNECT. Ends a call; identifier 0 is the dummy.
-    UDisconnect { id: u16, cause: u8 },
+    UDisconnect {
+        id: u16,
+        cause: u8,
+    },
     // 0504 U-RELEASE. Answers D-DISCONNECT.
-    URelease { id: u16 },
+    URelease {
+        id: u16,
+    },
     // 0505 U-INFO. Asks for the other mode.
-    UInfo { id: u16, mode: u8 },
+    UInfo {
+        id: u16,
+        mode: u8,
+    },
     // 0506 U-TX DEMAND. Asks for permission to transmit.
-    UTxDemand { id: u16 },
+    UTxDemand {
+        id: u16,
+    },
     // 0507 U-TX CEASED. Ends a transmission or a demand.
-    UTxCeased { id: u16 },
+    UTxCeased {
+        id: u16,
+    },
     // 0508 U-CALL RESTORE. Asks for the call that was cut to go on.
-    UCallRestore { id: u16, address: u32, ask: u8 },
+    UCallRestore {
+        id: u16,
+        address: u32,
+        ask: u8,
+    },
     // 0601 STOP. The host stops a timer.
-    Stop { timer: u16 },
+    Stop {
+        timer: u16,
+    },
     // 0602 START. The host starts a timer; the code is T310's, and 0 for every other timer.
-    Start { timer: u16, code: u8 },
+    Start {
+        timer: u16,
+        code: u8,
+    },
     // 0603 CONFIGURE. The lower layers switch the U-plane.
-    Configure { plane: u8 },
+    Configure {
+        plane: u8,
+    },
     // 0604 CANCEL. The lower layers drop the PDU that is not yet sent.
     Cancel,
     // 0701 SETUP indication. Another party calls.
-    SetupIndication { id: u16, address: u32, mode: u8 },
+    SetupIndication {
+        id: u16,
+        address: u32,
+        mode: u8,
+    },
     // 0702 SETUP confirm. The call that was asked for is there.
-    SetupConfirm { id: u16, grant: u8 },
+    SetupConfirm {
+        id: u16,
+        grant: u8,
+    },
     // 0703 PROCEED. The network works on the call.
     Proceed,
     // 0704 ALERT. The other party is called.
     Alert,
     // 0705 COMPLETE. The call that was taken is there.
-    Complete { grant: u8 },
+    Complete {
+        grant: u8,
+    },
     // 0706 RELEASE indication. The call has ended, or could not be kept.
-    ReleaseIndication { cause: u8 },
+    ReleaseIndication {
+        cause: u8,
+    },
     // 0707 RELEASE confirm. The call has ended, as asked.
     ReleaseConfirm,
     // 0708 TX indication. What became of the transmission.
-    TxIndication { told: u8 },
-    // 0709 MODIFY indication. The mode of the call.
-    ModifyIndication { mode: u8 },
+    TxIndication {
+        told: u8,
+    },
+    // 0709 MODIFY indication. The mode of the call and its slots.
+    ModifyIndication {
+        mode: u8,
+        slots: u8,
+    },
     // 0605 PLACE, of document 02. The messages behind it, up to the next such record, are those of this place of a console.
-    Place { at: u8 },
+    Place {
+        at: u8,
+    },
+    // 0606 CHANNEL ANSWER, of document 02. Whether the lower layers follow the channel allocation that a question was about.
+    ChannelAnswer {
+        number: u16,
+        verdict: u8,
+    },
 }
 
 // What reading finds: the value, or the paper's refusals 2, 3 and 4; 4 with the place of the first wrong field, or 2 for the body's size.
@@ -90,12 +144,204 @@ fn start_agrees(timer: u16, code: u8) -> bool
     code == 0
 }
 
-// The record of a kind by its number.
-fn read_kind(kind: u16, s: &[u8]) -> MessageRead
-    ensures { λ r. ⌜ asMessageRead r ≡ readAs messages kind (now (s .entry)) ⌝ }
+// U-SETUP a d q s.
+fn read_u_setup_slots(s: &[u8]) -> MessageRead
+    ensures { λ r. ⌜ asMessageRead r ≡ readBody messages uSetupSlots (now (s .entry)) ⌝ }
+{
+    if s.len() != 11 {
+        return MessageRead::BadBody(2);
+    }
+    let LongField::Is(address) = long_in(s, 4, Long::A1) else {
+        return MessageRead::BadBody(4);
+    };
+    let ByteField::Is(mode) = byte_in(s, 8, Byte::D) else {
+        return MessageRead::BadBody(8);
+    };
+    let ByteField::Is(ask) = byte_in(s, 9, Byte::Q) else {
+        return MessageRead::BadBody(9);
+    };
+    let ByteField::Is(slots) = byte_in(s, 10, Byte::S) else {
+        return MessageRead::BadBody(10);
+    };
+    MessageRead::Is(Message::USetup {
+        address,
+        mode,
+        ask,
+        slots,
+    })
+}
+
+// Those to the user.
+fn read_to_user(kind: u16, s: &[u8]) -> MessageRead
+    ensures { λ r. ⌜ asMessageRead r ≡ readAmong messages toUserKinds kind (now (s .entry)) ⌝ }
 {
     match kind {
-        0x0501 => { // U-SETUP a d q
+        0x0701 => { // SETUP indication i a d
+            if s.len() != 11 {
+                return MessageRead::BadBody(2);
+            }
+            let WordField::Is(id) = word_in(s, 4, Word::I) else {
+                return MessageRead::BadBody(4);
+            };
+            let LongField::Is(address) = long_in(s, 6, Long::A) else {
+                return MessageRead::BadBody(6);
+            };
+            let ByteField::Is(mode) = byte_in(s, 10, Byte::D) else {
+                return MessageRead::BadBody(10);
+            };
+            MessageRead::Is(Message::SetupIndication { id, address, mode })
+        }
+        0x0702 => { // SETUP confirm i g
+            if s.len() != 7 {
+                return MessageRead::BadBody(2);
+            }
+            let WordField::Is(id) = word_in(s, 4, Word::I) else {
+                return MessageRead::BadBody(4);
+            };
+            let ByteField::Is(grant) = byte_in(s, 6, Byte::G) else {
+                return MessageRead::BadBody(6);
+            };
+            MessageRead::Is(Message::SetupConfirm { id, grant })
+        }
+        0x0703 => { // PROCEED
+            if s.len() != 4 {
+                return MessageRead::BadBody(2);
+            }
+            MessageRead::Is(Message::Proceed)
+        }
+        0x0704 => { // ALERT
+            if s.len() != 4 {
+                return MessageRead::BadBody(2);
+            }
+            MessageRead::Is(Message::Alert)
+        }
+        0x0705 => { // COMPLETE g
+            if s.len() != 5 {
+                return MessageRead::BadBody(2);
+            }
+            let ByteField::Is(grant) = byte_in(s, 4, Byte::G) else {
+                return MessageRead::BadBody(4);
+            };
+            MessageRead::Is(Message::Complete { grant })
+        }
+        0x0706 => { // RELEASE indication c
+            if s.len() != 5 {
+                return MessageRead::BadBody(2);
+            }
+            let ByteField::Is(cause) = byte_in(s, 4, Byte::C) else {
+                return MessageRead::BadBody(4);
+            };
+            MessageRead::Is(Message::ReleaseIndication { cause })
+        }
+        0x0707 => { // RELEASE confirm
+            if s.len() != 4 {
+                return MessageRead::BadBody(2);
+            }
+            MessageRead::Is(Message::ReleaseConfirm)
+        }
+        0x0708 => { // TX indication x
+            if s.len() != 5 {
+                return MessageRead::BadBody(2);
+            }
+            let ByteField::Is(told) = byte_in(s, 4, Byte::X) else {
+                return MessageRead::BadBody(4);
+            };
+            MessageRead::Is(Message::TxIndication { told })
+        }
+        0x0709 => { // MODIFY indication d s
+            if s.len() != 6 {
+                return MessageRead::BadBody(2);
+            }
+            let ByteField::Is(mode) = byte_in(s, 4, Byte::D) else {
+                return MessageRead::BadBody(4);
+            };
+            let ByteField::Is(slots) = byte_in(s, 5, Byte::S) else {
+                return MessageRead::BadBody(5);
+            };
+            MessageRead::Is(Message::ModifyIndication { mode, slots })
+        }
+        _ => MessageRead::UnknownKind,
+    }
+}
+
+// Those to the timers, the lower layers and the host, and then the others.
+fn read_host(kind: u16, s: &[u8]) -> MessageRead
+    ensures { λ r. ⌜ asMessageRead r ≡ readAmong messages (hostKinds ++ toUserKinds) kind (now (s .entry)) ⌝ }
+{
+    match kind {
+        0x0601 => { // STOP n
+            if s.len() != 6 {
+                return MessageRead::BadBody(2);
+            }
+            let WordField::Is(timer) = word_in(s, 4, Word::N) else {
+                return MessageRead::BadBody(4);
+            };
+            MessageRead::Is(Message::Stop { timer })
+        }
+        0x0602 => { // START n o
+            if s.len() != 7 {
+                return MessageRead::BadBody(2);
+            }
+            let WordField::Is(timer) = word_in(s, 4, Word::N) else {
+                return MessageRead::BadBody(4);
+            };
+            let ByteField::Is(code) = byte_in(s, 6, Byte::O) else {
+                return MessageRead::BadBody(6);
+            };
+            if !start_agrees(timer, code) {
+                return MessageRead::BadBody(6);
+            }
+            MessageRead::Is(Message::Start { timer, code })
+        }
+        0x0603 => { // CONFIGURE p
+            if s.len() != 5 {
+                return MessageRead::BadBody(2);
+            }
+            let ByteField::Is(plane) = byte_in(s, 4, Byte::P) else {
+                return MessageRead::BadBody(4);
+            };
+            MessageRead::Is(Message::Configure { plane })
+        }
+        0x0604 => { // CANCEL
+            if s.len() != 4 {
+                return MessageRead::BadBody(2);
+            }
+            MessageRead::Is(Message::Cancel)
+        }
+        0x0605 => { // PLACE y
+            if s.len() != 5 {
+                return MessageRead::BadBody(2);
+            }
+            let ByteField::Is(at) = byte_in(s, 4, Byte::Y) else {
+                return MessageRead::BadBody(4);
+            };
+            MessageRead::Is(Message::Place { at })
+        }
+        0x0606 => { // CHANNEL ANSWER u v
+            if s.len() != 7 {
+                return MessageRead::BadBody(2);
+            }
+            let WordField::Is(number) = word_in(s, 4, Word::U) else {
+                return MessageRead::BadBody(4);
+            };
+            let ByteField::Is(verdict) = byte_in(s, 6, Byte::V) else {
+                return MessageRead::BadBody(6);
+            };
+            MessageRead::Is(Message::ChannelAnswer { number, verdict })
+        }
+        _ => read_to_user(kind, s),
+    }
+}
+
+// Those to the network, and where the kind is none of them the others.
+fn read_network(kind: u16, s: &[u8]) -> MessageRead
+    ensures { λ r. ⌜ asMessageRead r ≡ readAmong messages messageKinds kind (now (s .entry)) ⌝ }
+{
+    match kind {
+        0x0501 => { // U-SETUP a d q, or with s behind them
+            if s.len() == 11 {
+                return read_u_setup_slots(s);
+            }
             if s.len() != 10 {
                 return MessageRead::BadBody(2);
             }
@@ -108,7 +354,12 @@ fn read_kind(kind: u16, s: &[u8]) -> MessageRead
             let ByteField::Is(ask) = byte_in(s, 9, Byte::Q) else {
                 return MessageRead::BadBody(9);
             };
-            MessageRead::Is(Message::USetup { address, mode, ask })
+            MessageRead::Is(Message::USetup {
+                address,
+                mode,
+                ask,
+                slots: 0,
+            })
         }
         0x0502 => { // U-CONNECT i
             if s.len() != 6 {
@@ -185,136 +436,7 @@ fn read_kind(kind: u16, s: &[u8]) -> MessageRead
             };
             MessageRead::Is(Message::UCallRestore { id, address, ask })
         }
-        0x0601 => { // STOP n
-            if s.len() != 6 {
-                return MessageRead::BadBody(2);
-            }
-            let WordField::Is(timer) = word_in(s, 4, Word::N) else {
-                return MessageRead::BadBody(4);
-            };
-            MessageRead::Is(Message::Stop { timer })
-        }
-        0x0602 => { // START n o
-            if s.len() != 7 {
-                return MessageRead::BadBody(2);
-            }
-            let WordField::Is(timer) = word_in(s, 4, Word::N) else {
-                return MessageRead::BadBody(4);
-            };
-            let ByteField::Is(code) = byte_in(s, 6, Byte::O) else {
-                return MessageRead::BadBody(6);
-            };
-            if !start_agrees(timer, code) {
-                return MessageRead::BadBody(6);
-            }
-            MessageRead::Is(Message::Start { timer, code })
-        }
-        0x0603 => { // CONFIGURE p
-            if s.len() != 5 {
-                return MessageRead::BadBody(2);
-            }
-            let ByteField::Is(plane) = byte_in(s, 4, Byte::P) else {
-                return MessageRead::BadBody(4);
-            };
-            MessageRead::Is(Message::Configure { plane })
-        }
-        0x0604 => { // CANCEL
-            if s.len() != 4 {
-                return MessageRead::BadBody(2);
-            }
-            MessageRead::Is(Message::Cancel)
-        }
-        0x0701 => { // SETUP indication i a d
-            if s.len() != 11 {
-                return MessageRead::BadBody(2);
-            }
-            let WordField::Is(id) = word_in(s, 4, Word::I) else {
-                return MessageRead::BadBody(4);
-            };
-            let LongField::Is(address) = long_in(s, 6, Long::A) else {
-                return MessageRead::BadBody(6);
-            };
-            let ByteField::Is(mode) = byte_in(s, 10, Byte::D) else {
-                return MessageRead::BadBody(10);
-            };
-            MessageRead::Is(Message::SetupIndication { id, address, mode })
-        }
-        0x0702 => { // SETUP confirm i g
-            if s.len() != 7 {
-                return MessageRead::BadBody(2);
-            }
-            let WordField::Is(id) = word_in(s, 4, Word::I) else {
-                return MessageRead::BadBody(4);
-            };
-            let ByteField::Is(grant) = byte_in(s, 6, Byte::G) else {
-                return MessageRead::BadBody(6);
-            };
-            MessageRead::Is(Message::SetupConfirm { id, grant })
-        }
-        0x0703 => { // PROCEED
-            if s.len() != 4 {
-                return MessageRead::BadBody(2);
-            }
-            MessageRead::Is(Message::Proceed)
-        }
-        0x0704 => { // ALERT
-            if s.len() != 4 {
-                return MessageRead::BadBody(2);
-            }
-            MessageRead::Is(Message::Alert)
-        }
-        0x0705 => { // COMPLETE g
-            if s.len() != 5 {
-                return MessageRead::BadBody(2);
-            }
-            let ByteField::Is(grant) = byte_in(s, 4, Byte::G) else {
-                return MessageRead::BadBody(4);
-            };
-            MessageRead::Is(Message::Complete { grant })
-        }
-        0x0706 => { // RELEASE indication c
-            if s.len() != 5 {
-                return MessageRead::BadBody(2);
-            }
-            let ByteField::Is(cause) = byte_in(s, 4, Byte::C) else {
-                return MessageRead::BadBody(4);
-            };
-            MessageRead::Is(Message::ReleaseIndication { cause })
-        }
-        0x0707 => { // RELEASE confirm
-            if s.len() != 4 {
-                return MessageRead::BadBody(2);
-            }
-            MessageRead::Is(Message::ReleaseConfirm)
-        }
-        0x0708 => { // TX indication x
-            if s.len() != 5 {
-                return MessageRead::BadBody(2);
-            }
-            let ByteField::Is(told) = byte_in(s, 4, Byte::X) else {
-                return MessageRead::BadBody(4);
-            };
-            MessageRead::Is(Message::TxIndication { told })
-        }
-        0x0709 => { // MODIFY indication d
-            if s.len() != 5 {
-                return MessageRead::BadBody(2);
-            }
-            let ByteField::Is(mode) = byte_in(s, 4, Byte::D) else {
-                return MessageRead::BadBody(4);
-            };
-            MessageRead::Is(Message::ModifyIndication { mode })
-        }
-        0x0605 => { // PLACE y
-            if s.len() != 5 {
-                return MessageRead::BadBody(2);
-            }
-            let ByteField::Is(at) = byte_in(s, 4, Byte::Y) else {
-                return MessageRead::BadBody(4);
-            };
-            MessageRead::Is(Message::Place { at })
-        }
-        _ => MessageRead::UnknownKind,
+        _ => read_host(kind, s),
     }
 }
 
@@ -325,7 +447,22 @@ pub fn read_message(s: &[u8]) -> MessageRead
     let Head::Kind(kind) = kind_in(s) else {
         return MessageRead::BadLength;
     };
-    read_kind(kind, s)
+    read_network(kind, s)
+}
+
+// U-SETUP a d q s, stored as below.
+fn put_u_setup_slots(address: u32, mode: u8, ask: u8, slots: u8, out: &mut [u8]) -> usize
+    ensures { λ r. ⌜ _≡_ {A = ℕ × List ℕ} (r, now (out .exit)) (laidNext (flatBytes (flatOf messages uSetupSlots (address, (mode, (ask, (slots, tt)))))) (now (out .entry)) 0, laid (flatBytes (flatOf messages uSetupSlots (address, (mode, (ask, (slots, tt)))))) (now (out .entry)) 0) ⌝ }
+{
+    if out.len() < 11 {
+        return 0;
+    }
+    put_head(out, 11, 0x0501);
+    put_long(out, 4, address);
+    out[8] = mode;
+    out[9] = ask;
+    out[10] = slots;
+    11
 }
 
 // Stores a message at the front of a buffer where it fits, whatever its values, and answers how many bytes it took: 0 where it does not fit.
@@ -333,14 +470,22 @@ fn put_message(m: Message, out: &mut [u8]) -> usize
     ensures { λ r. ⌜ _≡_ {A = ℕ × List ℕ} (r, now (out .exit)) (laidNext (messageBytes m) (now (out .entry)) 0, laid (messageBytes m) (now (out .entry)) 0) ⌝ }
 {
     match m {
-        Message::USetup { address, mode, ask } => { // U-SETUP a d q
+        Message::USetup {
+            address,
+            mode,
+            ask,
+            slots,
+        } => { // U-SETUP a d q, or with s behind them
+            if slots != 0 {
+                return put_u_setup_slots(address, mode, ask, slots, out);
+            }
             if out.len() < 10 {
                 return 0;
             }
             put_head(out, 10, 0x0501);
             put_long(out, 4, address);
-            put_byte(out, 8, mode);
-            put_byte(out, 9, ask);
+            out[8] = mode;
+            out[9] = ask;
             10
         }
         Message::UConnect { id } => { // U-CONNECT i
@@ -357,7 +502,7 @@ fn put_message(m: Message, out: &mut [u8]) -> usize
             }
             put_head(out, 7, 0x0503);
             put_word(out, 4, id);
-            put_byte(out, 6, cause);
+            out[6] = cause;
             7
         }
         Message::URelease { id } => { // U-RELEASE i
@@ -374,7 +519,7 @@ fn put_message(m: Message, out: &mut [u8]) -> usize
             }
             put_head(out, 7, 0x0505);
             put_word(out, 4, id);
-            put_byte(out, 6, mode);
+            out[6] = mode;
             7
         }
         Message::UTxDemand { id } => { // U-TX DEMAND i
@@ -400,7 +545,7 @@ fn put_message(m: Message, out: &mut [u8]) -> usize
             put_head(out, 11, 0x0508);
             put_word(out, 4, id);
             put_long(out, 6, address);
-            put_byte(out, 10, ask);
+            out[10] = ask;
             11
         }
         Message::Stop { timer } => { // STOP n
@@ -417,7 +562,7 @@ fn put_message(m: Message, out: &mut [u8]) -> usize
             }
             put_head(out, 7, 0x0602);
             put_word(out, 4, timer);
-            put_byte(out, 6, code);
+            out[6] = code;
             7
         }
         Message::Configure { plane } => { // CONFIGURE p
@@ -425,7 +570,7 @@ fn put_message(m: Message, out: &mut [u8]) -> usize
                 return 0;
             }
             put_head(out, 5, 0x0603);
-            put_byte(out, 4, plane);
+            out[4] = plane;
             5
         }
         Message::Cancel => { // CANCEL
@@ -435,6 +580,23 @@ fn put_message(m: Message, out: &mut [u8]) -> usize
             put_head(out, 4, 0x0604);
             4
         }
+        Message::Place { at } => { // PLACE y
+            if out.len() < 5 {
+                return 0;
+            }
+            put_head(out, 5, 0x0605);
+            out[4] = at;
+            5
+        }
+        Message::ChannelAnswer { number, verdict } => { // CHANNEL ANSWER u v
+            if out.len() < 7 {
+                return 0;
+            }
+            put_head(out, 7, 0x0606);
+            put_word(out, 4, number);
+            out[6] = verdict;
+            7
+        }
         Message::SetupIndication { id, address, mode } => { // SETUP indication i a d
             if out.len() < 11 {
                 return 0;
@@ -442,7 +604,7 @@ fn put_message(m: Message, out: &mut [u8]) -> usize
             put_head(out, 11, 0x0701);
             put_word(out, 4, id);
             put_long(out, 6, address);
-            put_byte(out, 10, mode);
+            out[10] = mode;
             11
         }
         Message::SetupConfirm { id, grant } => { // SETUP confirm i g
@@ -451,7 +613,7 @@ fn put_message(m: Message, out: &mut [u8]) -> usize
             }
             put_head(out, 7, 0x0702);
             put_word(out, 4, id);
-            put_byte(out, 6, grant);
+            out[6] = grant;
             7
         }
         Message::Proceed => { // PROCEED
@@ -473,7 +635,7 @@ fn put_message(m: Message, out: &mut [u8]) -> usize
                 return 0;
             }
             put_head(out, 5, 0x0705);
-            put_byte(out, 4, grant);
+            out[4] = grant;
             5
         }
         Message::ReleaseIndication { cause } => { // RELEASE indication c
@@ -481,7 +643,7 @@ fn put_message(m: Message, out: &mut [u8]) -> usize
                 return 0;
             }
             put_head(out, 5, 0x0706);
-            put_byte(out, 4, cause);
+            out[4] = cause;
             5
         }
         Message::ReleaseConfirm => { // RELEASE confirm
@@ -496,24 +658,17 @@ fn put_message(m: Message, out: &mut [u8]) -> usize
                 return 0;
             }
             put_head(out, 5, 0x0708);
-            put_byte(out, 4, told);
+            out[4] = told;
             5
         }
-        Message::ModifyIndication { mode } => { // MODIFY indication d
-            if out.len() < 5 {
+        Message::ModifyIndication { mode, slots } => { // MODIFY indication d s
+            if out.len() < 6 {
                 return 0;
             }
-            put_head(out, 5, 0x0709);
-            put_byte(out, 4, mode);
-            5
-        }
-        Message::Place { at } => { // PLACE y
-            if out.len() < 5 {
-                return 0;
-            }
-            put_head(out, 5, 0x0605);
-            put_byte(out, 4, at);
-            5
+            put_head(out, 6, 0x0709);
+            out[4] = mode;
+            out[5] = slots;
+            6
         }
     }
 }
@@ -523,17 +678,21 @@ fn message_fits(m: Message) -> bool
     ensures { λ r. ⌜ r ≡ fine messages m ⌝ }
 {
     match m {
-        Message::USetup { address, mode, ask } => { // U-SETUP a d q
-            long_fits(Long::A1, address) & (byte_fits(Byte::D, mode) & byte_fits(Byte::Q, ask))
+        Message::USetup {
+            address,
+            mode,
+            ask,
+            slots,
+        } => { // U-SETUP a d q, or with s behind them
+            long_fits(Long::A1, address)
+                & (byte_fits(Byte::D, mode) & (byte_fits(Byte::Q, ask) & slots_fit(slots)))
         }
         Message::UConnect { id } => word_fits(Word::I, id), // U-CONNECT i
         Message::UDisconnect { id, cause } => { // U-DISCONNECT i c
             word_fits(Word::I0, id) & byte_fits(Byte::C, cause)
         }
         Message::URelease { id } => word_fits(Word::I0, id), // U-RELEASE i
-        Message::UInfo { id, mode } => { // U-INFO i d
-            word_fits(Word::I, id) & byte_fits(Byte::D, mode)
-        }
+        Message::UInfo { id, mode } => word_fits(Word::I, id) & byte_fits(Byte::D, mode), // U-INFO i d
         Message::UTxDemand { id } => word_fits(Word::I, id), // U-TX DEMAND i
         Message::UTxCeased { id } => word_fits(Word::I, id), // U-TX CEASED i
         Message::UCallRestore { id, address, ask } => { // U-CALL RESTORE i a q
@@ -541,10 +700,14 @@ fn message_fits(m: Message) -> bool
         }
         Message::Stop { timer } => word_fits(Word::N, timer), // STOP n
         Message::Start { timer, code } => { // START n o
-            word_fits(Word::N, timer) & byte_fits(Byte::O, code) & start_agrees(timer, code)
+            (word_fits(Word::N, timer) & byte_fits(Byte::O, code)) & start_agrees(timer, code)
         }
         Message::Configure { plane } => byte_fits(Byte::P, plane), // CONFIGURE p
         Message::Cancel => true, // CANCEL
+        Message::Place { at } => byte_fits(Byte::Y, at), // PLACE y
+        Message::ChannelAnswer { number, verdict } => { // CHANNEL ANSWER u v
+            word_fits(Word::U, number) & byte_fits(Byte::V, verdict)
+        }
         Message::SetupIndication { id, address, mode } => { // SETUP indication i a d
             word_fits(Word::I, id) & (long_fits(Long::A, address) & byte_fits(Byte::D, mode))
         }
@@ -557,8 +720,9 @@ fn message_fits(m: Message) -> bool
         Message::ReleaseIndication { cause } => byte_fits(Byte::C, cause), // RELEASE indication c
         Message::ReleaseConfirm => true, // RELEASE confirm
         Message::TxIndication { told } => byte_fits(Byte::X, told), // TX indication x
-        Message::ModifyIndication { mode } => byte_fits(Byte::D, mode), // MODIFY indication d
-        Message::Place { at } => byte_fits(Byte::Y, at), // PLACE y
+        Message::ModifyIndication { mode, slots } => { // MODIFY indication d s
+            byte_fits(Byte::D, mode) & byte_fits(Byte::S, slots)
+        }
     }
 }
 
@@ -585,7 +749,13 @@ pub fn message_size(m: Message) -> usize
             address: _,
             mode: _,
             ask: _,
-        } => 10, // U-SETUP a d q
+            slots,
+        } => { // U-SETUP a d q, or with s behind them
+            if slots != 0 {
+                return 11;
+            }
+            10
+        }
         Message::UConnect { id: _ } => 6, // U-CONNECT i
         Message::UDisconnect { id: _, cause: _ } => 7, // U-DISCONNECT i c
         Message::URelease { id: _ } => 6, // U-RELEASE i
@@ -613,8 +783,12 @@ pub fn message_size(m: Message) -> usize
         Message::ReleaseIndication { cause: _ } => 5, // RELEASE indication c
         Message::ReleaseConfirm => 4, // RELEASE confirm
         Message::TxIndication { told: _ } => 5, // TX indication x
-        Message::ModifyIndication { mode: _ } => 5, // MODIFY indication d
+        Message::ModifyIndication { mode: _, slots: _ } => 6, // MODIFY indication d s
         Message::Place { at: _ } => 5, // PLACE y
+        Message::ChannelAnswer {
+            number: _,
+            verdict: _,
+        } => 7, // CHANNEL ANSWER u v
     }
 }
 

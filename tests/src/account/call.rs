@@ -1,10 +1,10 @@
-//! The call record: 21 bytes stand for a call exactly when they unpack and are sound.
+//! The call record: 22 bytes stand for a call exactly when they unpack and are sound.
 
-use super::records::{MAX_ADDRESS, MAX_IDENTIFIER, MAX_T310_CODE};
+use super::records::{MAX_ADDRESS, MAX_IDENTIFIER, MAX_SLOTS, MAX_T310_CODE};
 use super::{Mode, Plane, Timer};
 
 /// Bytes of a packed record.
-pub const RECORD_LEN: usize = 21;
+pub const RECORD_LEN: usize = 22;
 
 #[derive(Clone, Copy, Debug, PartialEq, Eq, Hash, PartialOrd, Ord)]
 #[repr(u8)]
@@ -97,6 +97,8 @@ pub struct Call {
     pub t310_code: u8,
     /// Running or not, in the order of [`Timer::ALL`].
     pub timers: [bool; 7],
+    /// Slots per frame.
+    pub slots: u8,
 }
 
 impl Call {
@@ -112,6 +114,7 @@ impl Call {
         kept: Plane::Off,
         t310_code: 0,
         timers: [false; 7],
+        slots: 1,
     };
 
     #[inline]
@@ -124,7 +127,8 @@ impl Call {
     pub fn sound(&self) -> bool {
         let numbers_in_range = self.identifier <= MAX_IDENTIFIER
             && self.address <= MAX_ADDRESS
-            && self.t310_code <= MAX_T310_CODE;
+            && self.t310_code <= MAX_T310_CODE
+            && (1..=MAX_SLOTS).contains(&self.slots);
         let idle_only_if_fresh = self.state != State::Idle || *self == Call::FRESH;
         let t311_runs_in_plane_1 = self.running(Timer::T311) == (self.plane == Plane::Transmit);
         let t306_runs_restoring = self.running(Timer::T306) == (self.path == Path::Restoring);
@@ -155,7 +159,7 @@ impl Call {
     #[inline]
     pub fn unpack(bytes: &[u8]) -> Option<Call> {
         let [state, i0, i1, a0, a1, a2, a3, mode, asked, sent, path, plane, kept, t310_code,
-            timers @ ..]: [u8; RECORD_LEN] = bytes.try_into().ok()?;
+            timers @ .., slots]: [u8; RECORD_LEN] = bytes.try_into().ok()?;
         let timers: [u8; 7] = timers;
         // All flags at once: none is over 1 exactly when no bit but the lowest is set in any.
         if timers.iter().fold(asked | sent, |all, &flag| all | flag) > 1 {
@@ -173,6 +177,7 @@ impl Call {
             kept: Plane::from_number(kept)?,
             t310_code,
             timers: timers.map(|flag| flag == 1),
+            slots,
         })
     }
 
@@ -203,6 +208,7 @@ impl Call {
             t308,
             t310,
             t311,
+            self.slots,
         ]
     }
 }

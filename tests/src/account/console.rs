@@ -247,7 +247,7 @@ mod examples {
     impl Host {
         fn fresh() -> Host {
             let mut table = [0xEE; TABLE_LEN];
-            assert_eq!(fresh(&mut table), 168);
+            assert_eq!(fresh(&mut table), 176);
             Host { table, written: Vec::new() }
         }
 
@@ -271,14 +271,14 @@ mod examples {
         }
     }
 
-    const SETUP: Event = Event::SetupRequest { a: 7, d: Mode::Simplex, q: true };
+    const SETUP: Event = Event::SetupRequest { a: 7, d: Mode::Simplex, q: true, s: None };
 
     fn d_setup(i: u16) -> Event {
         Event::DSetup { i, a: 9, d: Mode::Simplex }
     }
 
     fn d_connect(i: u16) -> Event {
-        Event::DConnect { i, g: Grant::Granted, d: Mode::Simplex, o: 3 }
+        Event::DConnect { i, g: Grant::Granted, d: Mode::Simplex, o: 3, s: None }
     }
 
     #[test]
@@ -358,8 +358,8 @@ mod examples {
             assert_eq!(step(&mut after, 0, event.as_slice(), &mut []), answer << 24);
             assert_eq!(after, table);
         };
-        expect(&good.table[..147], 1);
-        expect(&[&good.table[..], &good.table[..21]].concat(), 1);
+        expect(&good.table[..154], 1);
+        expect(&[&good.table[..], &good.table[..RECORD_LEN]].concat(), 1);
         let held = |identifiers: [u16; 2]| {
             let mut console = Console::FRESH;
             for (at, identifier) in [(1, identifiers[0]), (6, identifiers[1])] {
@@ -373,7 +373,7 @@ mod examples {
         expect(&held([4, 4]), 1);
         expect(&held([0, 0]), 1);
         let mut unsound = good.table;
-        unsound[7 * 21 + 8] = 1;
+        unsound[7 * RECORD_LEN + 8] = 1;
         expect(&unsound, 1);
     }
 }

@@ -1,7 +1,7 @@
-//! The plane by history: which plane holds is decided by the taken events alone, without a look
-//! at any record.
+//! The plane and the slots by history: which plane holds, and which number of slots, is decided by the
+//! taken events alone, without a look at any record.
 //!
-//! The rule is kept apart from the steps on purpose (its own G, its own mode), so that the two
+//! The rules are kept apart from the steps on purpose (their own G, their own mode), so that the two
 //! can be compared.
 
 use super::{Event, Grant, Mode, Plane};
@@ -12,15 +12,23 @@ pub struct History {
     plane: Plane,
     /// The plane before the last D-TX WAIT.
     before_wait: Plane,
+    /// The last number carried by an event of the last call.
+    slots: u8,
 }
 
 impl History {
     /// No event taken yet. Before the first d and the first D-TX WAIT no rule asks for them.
     pub const EMPTY: History =
-        History { mode: Mode::Simplex, plane: Plane::Off, before_wait: Plane::Off };
+        History { mode: Mode::Simplex, plane: Plane::Off, before_wait: Plane::Off, slots: 1 };
 
     pub fn plane(&self) -> Plane {
         self.plane
+    }
+
+    /// Outside IDLE: the last number carried by a SETUP request, D-CONNECT or D-INFO of this call,
+    /// else 1. A call begins with SETUP request or D-SETUP.
+    pub fn slots(&self) -> u8 {
+        self.slots
     }
 
     /// The history with one more taken event.
@@ -58,7 +66,13 @@ impl History {
             Event::TxRequest { k: false } if self.plane == Plane::Transmit => Plane::Off,
             _ => self.plane,
         };
-        History { mode, plane, before_wait }
+        let slots = match event {
+            Event::SetupRequest { s, .. } => s.unwrap_or(1),
+            Event::DSetup { .. } => 1,
+            Event::DConnect { s, .. } | Event::DInfo { s, .. } => s.unwrap_or(self.slots),
+            _ => self.slots,
+        };
+        History { mode, plane, before_wait, slots }
     }
 }
 

@@ -5,7 +5,7 @@
 //! [`super::Message`] read without it.
 
 use super::records::{
-    ABSENT_T310_CODE, HEAD_LEN, MAX_ADDRESS, MAX_IDENTIFIER, MAX_PLACE, MAX_T310_CODE,
+    ABSENT_T310_CODE, HEAD_LEN, MAX_ADDRESS, MAX_IDENTIFIER, MAX_PLACE, MAX_SLOTS, MAX_T310_CODE,
     MAX_TX_INDICATION,
 };
 use super::Timer;
@@ -199,6 +199,9 @@ const C: Field = listed(
 );
 const P: Field = listed('p', "plane", 1, PLANES);
 const X: Field = number('x', "TX indication", 1, (0, MAX_TX_INDICATION as u32), TX_INDICATIONS);
+const S: Field = number('s', "slots", 1, (1, MAX_SLOTS as u32), &[]);
+const U: Field = number('u', "question", 2, (0, 65_535), &[]);
+const V: Field = listed('v', "verdict", 1, &[(0, "accept"), (1, "reject"), (2, "ignore")]);
 const Y: Field = number('y', "place", 1, (0, MAX_PLACE as u32), &[]);
 
 const GRANTS: &[(u32, &str)] =
@@ -232,17 +235,17 @@ const fn kind(
 use Party::{Console, LowerLayers, Network, Timers, User};
 
 pub const EVENTS: &[Kind] = &[
-    kind(0x0101, "SETUP request", User, &[&[A_KNOWN, D, Q]]),
+    kind(0x0101, "SETUP request", User, &[&[A_KNOWN, D, Q], &[A_KNOWN, D, Q, S]]),
     kind(0x0102, "SETUP response", User, &[&[]]),
     kind(0x0103, "RELEASE request", User, &[&[]]),
     kind(0x0104, "TX request", User, &[&[K_REQUEST]]),
     kind(0x0105, "MODIFY request", User, &[&[D]]),
     kind(0x0201, "D-CALL PROCEEDING", Network, &[&[I]]),
     kind(0x0202, "D-ALERT", Network, &[&[I]]),
-    kind(0x0203, "D-CONNECT", Network, &[&[I, G, D, O]]),
+    kind(0x0203, "D-CONNECT", Network, &[&[I, G, D, O], &[I, G, D, O, S]]),
     kind(0x0204, "D-CONNECT ACKNOWLEDGE", Network, &[&[I, G, O]]),
     kind(0x0205, "D-SETUP", Network, &[&[I, A, D]]),
-    kind(0x0206, "D-INFO", Network, &[&[I, R, O_OR_ABSENT, D]]),
+    kind(0x0206, "D-INFO", Network, &[&[I, R, O_OR_ABSENT, D], &[I, R, O_OR_ABSENT, D, S]]),
     kind(0x0207, "D-TX GRANTED", Network, &[&[I, G]]),
     kind(0x0208, "D-TX CEASED", Network, &[&[I]]),
     kind(0x0209, "D-TX INTERRUPT", Network, &[&[I, G]]),
@@ -259,7 +262,7 @@ pub const EVENTS: &[Kind] = &[
 ];
 
 pub const MESSAGES: &[Kind] = &[
-    kind(0x0501, "U-SETUP", Network, &[&[A_KNOWN, D, Q]]),
+    kind(0x0501, "U-SETUP", Network, &[&[A_KNOWN, D, Q], &[A_KNOWN, D, Q, S]]),
     kind(0x0502, "U-CONNECT", Network, &[&[I]]),
     kind(0x0503, "U-DISCONNECT", Network, &[&[I_OR_ZERO, C]]),
     kind(0x0504, "U-RELEASE", Network, &[&[I_OR_ZERO]]),
@@ -272,6 +275,7 @@ pub const MESSAGES: &[Kind] = &[
     kind(0x0603, "CONFIGURE", LowerLayers, &[&[P]]),
     kind(0x0604, "CANCEL", LowerLayers, &[&[]]),
     kind(0x0605, "PLACE", Console, &[&[Y]]),
+    kind(0x0606, "CHANNEL ANSWER", LowerLayers, &[&[U, V]]),
     kind(0x0701, "SETUP indication", User, &[&[I, A, D]]),
     kind(0x0702, "SETUP confirm", User, &[&[I, G]]),
     kind(0x0703, "PROCEED", User, &[&[]]),
@@ -280,7 +284,7 @@ pub const MESSAGES: &[Kind] = &[
     kind(0x0706, "RELEASE indication", User, &[&[C]]),
     kind(0x0707, "RELEASE confirm", User, &[&[]]),
     kind(0x0708, "TX indication", User, &[&[X]]),
-    kind(0x0709, "MODIFY indication", User, &[&[D]]),
+    kind(0x0709, "MODIFY indication", User, &[&[D, S]]),
 ];
 
 const SETUP_REQUEST: u16 = 0x0101;

@@ -19,7 +19,7 @@ pub mod step;
 
 pub use call::{Call, Path, State, RECORD_LEN};
 pub use history::History;
-pub use records::{Cause, Event, Grant, Message, Mode, Plane, Timer};
+pub use records::{Cause, Event, Grant, Message, Mode, Plane, Timer, Verdict};
 
 /// Why something was not taken; 0 is `Ok`.
 #[derive(Clone, Copy, Debug, PartialEq, Eq)]

@@ -9,12 +9,14 @@ pub const MAX_T310_CODE: u8 = 15;
 /// In D-INFO and D-CALL RESTORE alone: no T310 code is given.
 pub const ABSENT_T310_CODE: u8 = 16;
 pub const MAX_TX_INDICATION: u8 = 8;
+pub const MAX_SLOTS: u8 = 4;
 /// Of the console.
 pub const MAX_PLACE: u8 = 7;
 
 /// Length and kind.
 pub const HEAD_LEN: usize = 4;
-/// The longest records (U-CALL RESTORE, SETUP indication, D-SETUP) have a body of 7 bytes.
+/// The longest records (U-CALL RESTORE, SETUP indication, D-SETUP, SETUP request and U-SETUP with
+/// slots) have a body of 7 bytes.
 pub const MAX_RECORD_LEN: usize = 11;
 
 /// An enum whose cases carry the numbers they have in a record.
@@ -59,6 +61,11 @@ numbered! {
 }
 
 numbered! {
+    /// v, what a question of the lower layers is answered.
+    Verdict { Accept = 0, Reject = 1, Ignore = 2 }
+}
+
+numbered! {
     /// n, by its place in the call record's array; [`Timer::number`] is what a record says.
     Timer { T301 = 0, T302 = 1, T303 = 2, T306 = 3, T308 = 4, T310 = 5, T311 = 6 }
 }
@@ -85,11 +92,12 @@ impl Timer {
 }
 
 /// What comes in. In TX request k is true for a demand and false for a cease; where o may be
-/// absent, `None` is the paper's 16.
+/// absent, `None` is the paper's 16. Where s, the slots, is `None` the record is the old one, without
+/// the byte at its end.
 #[derive(Clone, Copy, Debug, PartialEq, Eq)]
 pub enum Event {
     // User.
-    SetupRequest { a: u32, d: Mode, q: bool },
+    SetupRequest { a: u32, d: Mode, q: bool, s: Option<u8> },
     SetupResponse,
     ReleaseRequest,
     TxRequest { k: bool },
@@ -97,10 +105,10 @@ pub enum Event {
     // Network.
     DCallProceeding { i: u16 },
     DAlert { i: u16 },
-    DConnect { i: u16, g: Grant, d: Mode, o: u8 },
+    DConnect { i: u16, g: Grant, d: Mode, o: u8, s: Option<u8> },
     DConnectAcknowledge { i: u16, g: Grant, o: u8 },
     DSetup { i: u16, a: u32, d: Mode },
-    DInfo { i: u16, r: bool, o: Option<u8>, d: Mode },
+    DInfo { i: u16, r: bool, o: Option<u8>, d: Mode, s: Option<u8> },
     DTxGranted { i: u16, g: Grant },
     DTxCeased { i: u16 },
     DTxInterrupt { i: u16, g: Grant },
@@ -118,11 +126,11 @@ pub enum Event {
     Expiry { n: Timer },
 }
 
-/// What goes out.
+/// What goes out. A U-SETUP without s is the old record; MODIFY indication always has s.
 #[derive(Clone, Copy, Debug, PartialEq, Eq)]
 pub enum Message {
     // U-PDUs.
-    USetup { a: u32, d: Mode, q: bool },
+    USetup { a: u32, d: Mode, q: bool, s: Option<u8> },
     UConnect { i: u16 },
     UDisconnect { i: u16, c: Cause },
     URelease { i: u16 },
@@ -137,6 +145,8 @@ pub enum Message {
     Cancel,
     // Before the messages of a place of the console.
     Place { place: u8 },
+    // To the lower layers' question of this number. No step writes it.
+    ChannelAnswer { number: u16, v: Verdict },
     // To the user.
     SetupIndication { i: u16, a: u32, d: Mode },
     SetupConfirm { i: u16, g: Grant },
@@ -146,7 +156,7 @@ pub enum Message {
     ReleaseIndication { c: Cause },
     ReleaseConfirm,
     TxIndication { x: u8 },
-    ModifyIndication { d: Mode },
+    ModifyIndication { d: Mode, s: u8 },
 }
 
 impl Event {
@@ -155,8 +165,8 @@ impl Event {
         // The size is checked before the fields, and these from left to right.
         Ok(match kind {
             0x0101 => {
-                let mut b = body.of(6)?;
-                Event::SetupRequest { a: b.a_known()?, d: b.d()?, q: b.flag()? }
+                let mut b = body.with_or_without_slots(6)?;
+                Event::SetupRequest { a: b.a_known()?, d: b.d()?, q: b.flag()?, s: b.s_at_end()? }
             }
             0x0102 => body.of(0).map(|_| Event::SetupResponse)?,
             0x0103 => body.of(0).map(|_| Event::ReleaseRequest)?,
@@ -165,8 +175,8 @@ impl Event {
             0x0201 => Event::DCallProceeding { i: body.of(2)?.i()? },
             0x0202 => Event::DAlert { i: body.of(2)?.i()? },
             0x0203 => {
-                let mut b = body.of(5)?;
-                Event::DConnect { i: b.i()?, g: b.g()?, d: b.d()?, o: b.o()? }
+                let mut b = body.with_or_without_slots(5)?;
+                Event::DConnect { i: b.i()?, g: b.g()?, d: b.d()?, o: b.o()?, s: b.s_at_end()? }
             }
             0x0204 => {
                 let mut b = body.of(4)?;
@@ -177,8 +187,14 @@ impl Event {
                 Event::DSetup { i: b.i()?, a: b.a()?, d: b.d()? }
             }
             0x0206 => {
-                let mut b = body.of(5)?;
-                Event::DInfo { i: b.i()?, r: b.flag()?, o: b.o_or_absent()?, d: b.d()? }
+                let mut b = body.with_or_without_slots(5)?;
+                Event::DInfo {
+                    i: b.i()?,
+                    r: b.flag()?,
+                    o: b.o_or_absent()?,
+                    d: b.d()?,
+                    s: b.s_at_end()?,
+                }
             }
             0x0207 => {
                 let mut b = body.of(3)?;
@@ -220,14 +236,14 @@ impl Event {
     /// Whether every number is one a reader would take.
     pub fn in_range(&self) -> bool {
         match *self {
-            Event::SetupRequest { a, .. } => address_known(a),
+            Event::SetupRequest { a, s, .. } => address_known(a) && s.is_none_or(slots),
             Event::DSetup { i, a, .. } => identifier(i) && address(a),
-            Event::DConnect { i, o, .. } | Event::DConnectAcknowledge { i, o, .. } => {
-                identifier(i) && t310_code(o)
+            Event::DConnect { i, o, s, .. } => identifier(i) && t310_code(o) && s.is_none_or(slots),
+            Event::DConnectAcknowledge { i, o, .. } => identifier(i) && t310_code(o),
+            Event::DInfo { i, o, s, .. } => {
+                identifier(i) && o.is_none_or(t310_code) && s.is_none_or(slots)
             }
-            Event::DInfo { i, o, .. } | Event::DCallRestore { i, o, .. } => {
-                identifier(i) && o.is_none_or(t310_code)
-            }
+            Event::DCallRestore { i, o, .. } => identifier(i) && o.is_none_or(t310_code),
             Event::DCallProceeding { i }
             | Event::DAlert { i }
             | Event::DTxGranted { i, .. }
@@ -273,9 +289,12 @@ impl Event {
 impl Put for Event {
     fn put(&self, sink: &mut impl Sink) {
         match *self {
-            Event::SetupRequest { a, d, q } => {
+            Event::SetupRequest { a, d, q, s } => {
                 let [a0, a1, a2, a3] = a.to_le_bytes();
-                sink.record(0x0101, [a0, a1, a2, a3, d as u8, q as u8]);
+                match s {
+                    None => sink.record(0x0101, [a0, a1, a2, a3, d as u8, q as u8]),
+                    Some(s) => sink.record(0x0101, [a0, a1, a2, a3, d as u8, q as u8, s]),
+                }
             }
             Event::SetupResponse => sink.record(0x0102, []),
             Event::ReleaseRequest => sink.record(0x0103, []),
@@ -283,9 +302,12 @@ impl Put for Event {
             Event::ModifyRequest { d } => sink.record(0x0105, [d as u8]),
             Event::DCallProceeding { i } => sink.record(0x0201, i.to_le_bytes()),
             Event::DAlert { i } => sink.record(0x0202, i.to_le_bytes()),
-            Event::DConnect { i, g, d, o } => {
+            Event::DConnect { i, g, d, o, s } => {
                 let [i0, i1] = i.to_le_bytes();
-                sink.record(0x0203, [i0, i1, g as u8, d as u8, o]);
+                match s {
+                    None => sink.record(0x0203, [i0, i1, g as u8, d as u8, o]),
+                    Some(s) => sink.record(0x0203, [i0, i1, g as u8, d as u8, o, s]),
+                }
             }
             Event::DConnectAcknowledge { i, g, o } => {
                 let [i0, i1] = i.to_le_bytes();
@@ -296,9 +318,13 @@ impl Put for Event {
                 let [a0, a1, a2, a3] = a.to_le_bytes();
                 sink.record(0x0205, [i0, i1, a0, a1, a2, a3, d as u8]);
             }
-            Event::DInfo { i, r, o, d } => {
+            Event::DInfo { i, r, o, d, s } => {
                 let [i0, i1] = i.to_le_bytes();
-                sink.record(0x0206, [i0, i1, r as u8, o.unwrap_or(ABSENT_T310_CODE), d as u8]);
+                let o = o.unwrap_or(ABSENT_T310_CODE);
+                match s {
+                    None => sink.record(0x0206, [i0, i1, r as u8, o, d as u8]),
+                    Some(s) => sink.record(0x0206, [i0, i1, r as u8, o, d as u8, s]),
+                }
             }
             Event::DTxGranted { i, g } => {
                 let [i0, i1] = i.to_le_bytes();
@@ -334,8 +360,8 @@ impl Message {
         let (kind, body) = open(bytes)?;
         Ok(match kind {
             0x0501 => {
-                let mut b = body.of(6)?;
-                Message::USetup { a: b.a_known()?, d: b.d()?, q: b.flag()? }
+                let mut b = body.with_or_without_slots(6)?;
+                Message::USetup { a: b.a_known()?, d: b.d()?, q: b.flag()?, s: b.s_at_end()? }
             }
             0x0502 => Message::UConnect { i: body.of(2)?.i()? },
             0x0503 => {
@@ -362,6 +388,10 @@ impl Message {
             0x0603 => Message::Configure { p: body.of(1)?.p()? },
             0x0604 => body.of(0).map(|_| Message::Cancel)?,
             0x0605 => Message::Place { place: body.of(1)?.place()? },
+            0x0606 => {
+                let mut b = body.of(3)?;
+                Message::ChannelAnswer { number: b.number()?, v: b.v()? }
+            }
             0x0701 => {
                 let mut b = body.of(7)?;
                 Message::SetupIndication { i: b.i()?, a: b.a()?, d: b.d()? }
@@ -376,7 +406,10 @@ impl Message {
             0x0706 => Message::ReleaseIndication { c: body.of(1)?.c()? },
             0x0707 => body.of(0).map(|_| Message::ReleaseConfirm)?,
             0x0708 => Message::TxIndication { x: body.of(1)?.x()? },
-            0x0709 => Message::ModifyIndication { d: body.of(1)?.d()? },
+            0x0709 => {
+                let mut b = body.of(2)?;
+                Message::ModifyIndication { d: b.d()?, s: b.s()? }
+            }
             _ => return Err(Refusal::Kind),
         })
     }
@@ -392,7 +425,7 @@ impl Message {
     /// Whether every number is one a reader would take.
     pub fn in_range(&self) -> bool {
         match *self {
-            Message::USetup { a, .. } => address_known(a),
+            Message::USetup { a, s, .. } => address_known(a) && s.is_none_or(slots),
             Message::UConnect { i }
             | Message::UInfo { i, .. }
             | Message::UTxDemand { i }
@@ -406,14 +439,15 @@ impl Message {
             Message::TxIndication { x } => x <= MAX_TX_INDICATION,
             Message::Place { place } => place <= MAX_PLACE,
             Message::Stop { .. }
+            | Message::ChannelAnswer { .. }
             | Message::Configure { .. }
             | Message::Cancel
             | Message::Proceed
             | Message::Alert
             | Message::Complete { .. }
             | Message::ReleaseIndication { .. }
-            | Message::ReleaseConfirm
-            | Message::ModifyIndication { .. } => true,
+            | Message::ReleaseConfirm => true,
+            Message::ModifyIndication { s, .. } => slots(s),
         }
     }
 }
@@ -422,9 +456,12 @@ impl Put for Message {
     #[inline]
     fn put(&self, sink: &mut impl Sink) {
         match *self {
-            Message::USetup { a, d, q } => {
+            Message::USetup { a, d, q, s } => {
                 let [a0, a1, a2, a3] = a.to_le_bytes();
-                sink.record(0x0501, [a0, a1, a2, a3, d as u8, q as u8]);
+                match s {
+                    None => sink.record(0x0501, [a0, a1, a2, a3, d as u8, q as u8]),
+                    Some(s) => sink.record(0x0501, [a0, a1, a2, a3, d as u8, q as u8, s]),
+                }
             }
             Message::UConnect { i } => sink.record(0x0502, i.to_le_bytes()),
             Message::UDisconnect { i, c } => {
@@ -451,6 +488,10 @@ impl Put for Message {
             Message::Configure { p } => sink.record(0x0603, [p as u8]),
             Message::Cancel => sink.record(0x0604, []),
             Message::Place { place } => sink.record(0x0605, [place]),
+            Message::ChannelAnswer { number, v } => {
+                let [n0, n1] = number.to_le_bytes();
+                sink.record(0x0606, [n0, n1, v as u8]);
+            }
             Message::SetupIndication { i, a, d } => {
                 let [i0, i1] = i.to_le_bytes();
                 let [a0, a1, a2, a3] = a.to_le_bytes();
@@ -466,7 +507,7 @@ impl Put for Message {
             Message::ReleaseIndication { c } => sink.record(0x0706, [c as u8]),
             Message::ReleaseConfirm => sink.record(0x0707, []),
             Message::TxIndication { x } => sink.record(0x0708, [x]),
-            Message::ModifyIndication { d } => sink.record(0x0709, [d as u8]),
+            Message::ModifyIndication { d, s } => sink.record(0x0709, [d as u8, s]),
         }
     }
 }
@@ -512,6 +553,10 @@ fn t310_code(o: u8) -> bool {
     o <= MAX_T310_CODE
 }
 
+fn slots(s: u8) -> bool {
+    (1..=MAX_SLOTS).contains(&s)
+}
+
 fn start_code(n: Timer, o: u8) -> bool {
     if n == Timer::T310 {
         t310_code(o)
@@ -549,6 +594,13 @@ impl<'a> Body<'a> {
         } else {
             Err(Refusal::Field { place: 2 })
         }
+    }
+
+    /// This body, if it has the size of the old record or one byte more, the slots at its end.
+    #[inline]
+    fn with_or_without_slots(self, size: usize) -> Result<Body<'a>, Refusal> {
+        let longer = self.rest.len() == size + 1;
+        self.of(if longer { size + 1 } else { size })
     }
 
     /// The next letter, of N bytes, if `value` makes something of them; else its place is the bad one.
@@ -612,6 +664,18 @@ impl<'a> Body<'a> {
         })
     }
 
+    fn s(&mut self) -> Result<u8, Refusal> {
+        self.byte(|s| Some(s).filter(|&s| slots(s)))
+    }
+
+    /// The slots at the end of a longer record; none in an old one.
+    fn s_at_end(&mut self) -> Result<Option<u8>, Refusal> {
+        if self.rest.is_empty() {
+            return Ok(None);
+        }
+        self.s().map(Some)
+    }
+
     /// The o of START n.
     fn o_of(&mut self, n: Timer) -> Result<u8, Refusal> {
         self.byte(|o| Some(o).filter(|&o| start_code(n, o)))
@@ -631,6 +695,15 @@ impl<'a> Body<'a> {
 
     fn place(&mut self) -> Result<u8, Refusal> {
         self.byte(|place| Some(place).filter(|&place| place <= MAX_PLACE))
+    }
+
+    /// Any number.
+    fn number(&mut self) -> Result<u16, Refusal> {
+        self.letter(|number| Some(u16::from_le_bytes(number)))
+    }
+
+    fn v(&mut self) -> Result<Verdict, Refusal> {
+        self.byte(Verdict::from_number)
     }
 
     fn x(&mut self) -> Result<u8, Refusal> {

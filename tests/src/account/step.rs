@@ -139,12 +139,13 @@ impl Turn {
 
         match (state, path, event) {
             // IDLE.
-            (State::Idle, _, Event::SetupRequest { a, d, q }) => {
+            (State::Idle, _, Event::SetupRequest { a, d, q, s }) => {
                 self.call.state = State::MoCallSetup;
                 self.call.address = a;
                 self.call.mode = d;
                 self.call.asked = q;
-                self.pdu(Message::USetup { a, d, q });
+                self.slots(s);
+                self.pdu(Message::USetup { a, d, q, s });
                 self.start(Timer::T303);
             }
             (State::Idle, _, Event::DSetup { i, a, d }) => {
@@ -166,9 +167,10 @@ impl Turn {
                 self.progress(i, Message::Proceed);
             }
             (State::MoCallSetup, _, Event::DAlert { i }) => self.progress(i, Message::Alert),
-            (State::MoCallSetup, _, Event::DConnect { i, g, d, o }) => {
+            (State::MoCallSetup, _, Event::DConnect { i, g, d, o, s }) => {
                 self.call.identifier = i;
                 self.call.mode = d;
+                self.slots(s);
                 self.call.sent = true;
                 self.call.state = State::CallActive;
                 self.stop(Timer::T302);
@@ -219,16 +221,17 @@ impl Turn {
             (State::CallActive, Path::Up, Event::ModifyRequest { d }) => {
                 self.pdu(Message::UInfo { i, d });
             }
-            (State::CallActive, Path::Up, Event::DInfo { r, o, d, .. }) => {
+            (State::CallActive, Path::Up, Event::DInfo { r, o, d, s, .. }) => {
                 self.restart_t310(r, o);
+                self.slots(s);
                 if d != self.call.mode {
                     self.call.mode = d;
                     self.off();
                 } else {
-                    // Told again, not given anew: T311 stays as it is.
+                    // Told again, not given anew, whether or not the slots change: T311 stays as it is.
                     self.orders.configure = Some(plane);
                 }
-                self.user(Message::ModifyIndication { d });
+                self.user(Message::ModifyIndication { d, s: self.call.slots });
             }
             (State::CallActive, Path::Up, Event::DTxGranted { g, .. }) => {
                 self.grant(g);
@@ -362,6 +365,13 @@ impl Turn {
         self.stop(Timer::T303);
         self.start(Timer::T302);
         self.user(user);
+    }
+
+    /// The slots that an event carries; the old record keeps the held number.
+    fn slots(&mut self, s: Option<u8>) {
+        if let Some(s) = s {
+            self.call.slots = s;
+        }
     }
 
     /// Grant rule G.

@@ -1,7 +1,7 @@
 //! How long one step of the console takes: the library beside the account, on the same tape of events
 //! for up to eight calls, in one run.
 //!
-//! The account is measured behind the same interface as the library (168 packed bytes in and out) and
+//! The account is measured behind the same interface as the library (176 packed bytes in and out) and
 //! once more with the eight calls kept as structs. Rounds alternate, and the best of each counts.
 //! Then the events of the tape by where they go, each from the table it met on the tape.
 

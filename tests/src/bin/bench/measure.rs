@@ -1,11 +1,11 @@
 //! How long one step takes, and how much stack: the library beside the account, on the same tape
 //! of events, in one run.
 //!
-//! The account is measured behind the same interface as the library (21 packed bytes in and out)
+//! The account is measured behind the same interface as the library (22 packed bytes in and out)
 //! and once more with the record kept unpacked, which is what a host in Rust would do. Rounds
 //! alternate, so that both see the same weather, and the best round of each counts.
 
-use callcontrol_tests::account::{boundary, Call};
+use callcontrol_tests::account::{boundary, Call, RECORD_LEN};
 use callcontrol_tests::library;
 use callcontrol_tests::tape::{tape, Tape, EVENTS, OUT_LEN};
 use callcontrol_tests::yardstick;
@@ -43,7 +43,7 @@ fn struct_step(call: &mut Call, event: &[u8], out: &mut [u8]) -> u32 {
 #[derive(Clone, Copy, Debug, PartialEq, Eq)]
 struct Sum {
     words: u64,
-    record: [u8; 21],
+    record: [u8; RECORD_LEN],
 }
 
 // Two loops that differ only in the function called: called directly in both, as a host would.

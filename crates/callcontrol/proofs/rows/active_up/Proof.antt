@@ -20,17 +20,17 @@ others = 0 ∷ 1 ∷ 5 ∷ 6 ∷ 7 ∷ 8 ∷ 9 ∷ 15 ∷ 16 ∷ 19 ∷ 20 ∷ 2
 
 no-row : (call : Call) (event : Event) → T (hasTag others event) → noRow call ≡ activeUp call event
 unfolding activeUp
-no-row call (Event.SetupRequest x y z) t = refl
+no-row call (Event.SetupRequest x y z v) t = refl
 no-row call Event.SetupResponse t = refl
 no-row call Event.ReleaseRequest t = absurd t
 no-row call (Event.TxRequest x) t = absurd t
 no-row call (Event.ModifyRequest x) t = absurd t
 no-row call (Event.DCallProceeding x) t = refl
 no-row call (Event.DAlert x) t = refl
-no-row call (Event.DConnect x y z w) t = refl
+no-row call (Event.DConnect x y z w v) t = refl
 no-row call (Event.DConnectAcknowledge x y z) t = refl
 no-row call (Event.DSetup x y z) t = refl
-no-row call (Event.DInfo x y z w) t = absurd t
+no-row call (Event.DInfo x y z w v) t = absurd t
 no-row call (Event.DTxGranted x y) t = absurd t
 no-row call (Event.DTxCeased x) t = absurd t
 no-row call (Event.DTxInterrupt x y) t = absurd t

@@ -19,17 +19,17 @@ others = 1 ∷ 2 ∷ 3 ∷ 4 ∷ 5 ∷ 6 ∷ 7 ∷ 8 ∷ 10 ∷ 11 ∷ 12 ∷ 13
 
 no-row : (call : Call) (event : Event) → T (hasTag others event) → noRow call ≡ idle call event
 unfolding idle
-no-row call (Event.SetupRequest x y z) t = absurd t
+no-row call (Event.SetupRequest x y z v) t = absurd t
 no-row call Event.SetupResponse t = refl
 no-row call Event.ReleaseRequest t = refl
 no-row call (Event.TxRequest x) t = refl
 no-row call (Event.ModifyRequest x) t = refl
 no-row call (Event.DCallProceeding x) t = refl
 no-row call (Event.DAlert x) t = refl
-no-row call (Event.DConnect x y z w) t = refl
+no-row call (Event.DConnect x y z w v) t = refl
 no-row call (Event.DConnectAcknowledge x y z) t = refl
 no-row call (Event.DSetup x y z) t = absurd t
-no-row call (Event.DInfo x y z w) t = refl
+no-row call (Event.DInfo x y z w v) t = refl
 no-row call (Event.DTxGranted x y) t = refl
 no-row call (Event.DTxCeased x) t = refl
 no-row call (Event.DTxInterrupt x y) t = refl
@@ -52,9 +52,10 @@ idle-spec =
     (λ c. search needs)
     (λ c. search needs)
     (λ c. search needs)
+    (λ c κs. search needs)
     (λ c. search needs)
     (λ c. search needs)
     (λ c κs. search needs)
-    (λ c. rw (c .before .event .given .1) (setup-request-is _ _ _ _))
+    (λ c. rw (c .before .before .event .given .1, c .slots-after .ensures) (setup-request-is _ _ _ _ _))
     (λ c. rw (c .before .event2 .given .1) (d-setup-is _ _ _ _))
     (λ c. rw (c .none .ensures) (none-is (c .before .before .args .call) ∙ no-row (c .before .before .args .call) (c .before .before .args .event) (oneOf others (c .before .before .args .event) (c .before .match .keys3)))))

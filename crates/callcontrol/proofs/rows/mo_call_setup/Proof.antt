@@ -20,17 +20,17 @@ others = 0 ∷ 1 ∷ 3 ∷ 4 ∷ 8 ∷ 9 ∷ 10 ∷ 11 ∷ 12 ∷ 13 ∷ 14 ∷ 
 
 no-row : (call : Call) (event : Event) → T (hasTag others event) → noRow call ≡ moCallSetup call event
 unfolding moCallSetup
-no-row call (Event.SetupRequest x y z) t = refl
+no-row call (Event.SetupRequest x y z v) t = refl
 no-row call Event.SetupResponse t = refl
 no-row call Event.ReleaseRequest t = absurd t
 no-row call (Event.TxRequest x) t = refl
 no-row call (Event.ModifyRequest x) t = refl
 no-row call (Event.DCallProceeding x) t = absurd t
 no-row call (Event.DAlert x) t = absurd t
-no-row call (Event.DConnect x y z w) t = absurd t
+no-row call (Event.DConnect x y z w v) t = absurd t
 no-row call (Event.DConnectAcknowledge x y z) t = refl
 no-row call (Event.DSetup x y z) t = refl
-no-row call (Event.DInfo x y z w) t = refl
+no-row call (Event.DInfo x y z w v) t = refl
 no-row call (Event.DTxGranted x y) t = refl
 no-row call (Event.DTxCeased x) t = refl
 no-row call (Event.DTxInterrupt x y) t = refl
@@ -78,6 +78,7 @@ mo-call-setup-spec =
     (λ c κs. search needs)
     (λ c. search needs)
     (λ c κs. search needs)
+    (λ c κs. search needs)
     (λ c. search needs)
     (λ c κs. search needs)
     (λ c. search needs)
@@ -99,7 +100,7 @@ mo-call-setup-spec =
     (λ c. rw (c .before .before .before .enum-told .given .1, ne-eqb _ _ (c .before .if1 .left)) (c .releasing .ensures))
     (λ c. rw (c .before .before .event .given .1, c .naming .ensures) (proceeding-is _ _))
     (λ c. rw (c .before .before .event2 .given .1, c .naming2 .ensures) (alert-is _ _))
-    (λ c. rw (c .before .before .before .event3 .given .1, c .asked-after .ensures, c .before .plane-or-off .ensures .0) (connected-is _ _ _ _ _))
+    (λ c. rw (c .before .before .before .before .event3 .given .1, c .slots-after .ensures, c .before .asked-after .ensures, c .before .before .plane-or-off .ensures .0) (connected-is _ _ _ _ _ _))
     (λ c. rw (c .before .before .event4 .given .1) (c .disconnected .ensures))
     (λ c. rw (c .before .enum-told2 .given .1) (c .released .ensures))
     (λ c. rw (c .before .before .before .enum-told3 .given .1, ne-eqb _ _ (c .before .if2 .left), c .none .ensures) (none-is _))

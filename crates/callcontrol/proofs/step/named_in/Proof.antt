@@ -16,17 +16,17 @@ abbrev others : List ℕ
 others = 0 ∷ 1 ∷ 2 ∷ 3 ∷ 4 ∷ 9 ∷ 19 ∷ 20 ∷ 21 ∷ 22 ∷ 23 ∷ []
 
 unnamed : (event : Event) → T (hasTag others event) → Named.NoCall ≡ namedIn event
-unnamed (Event.SetupRequest x y z) t = refl
+unnamed (Event.SetupRequest x y z v) t = refl
 unnamed Event.SetupResponse t = refl
 unnamed Event.ReleaseRequest t = refl
 unnamed (Event.TxRequest x) t = refl
 unnamed (Event.ModifyRequest x) t = refl
 unnamed (Event.DCallProceeding x) t = absurd t
 unnamed (Event.DAlert x) t = absurd t
-unnamed (Event.DConnect x y z w) t = absurd t
+unnamed (Event.DConnect x y z w v) t = absurd t
 unnamed (Event.DConnectAcknowledge x y z) t = absurd t
 unnamed (Event.DSetup x y z) t = refl
-unnamed (Event.DInfo x y z w) t = absurd t
+unnamed (Event.DInfo x y z w v) t = absurd t
 unnamed (Event.DTxGranted x y) t = absurd t
 unnamed (Event.DTxCeased x) t = absurd t
 unnamed (Event.DTxInterrupt x y) t = absurd t

@@ -17,17 +17,17 @@ abbrev others : List ℕ
 others = 0 ∷ 1 ∷ 2 ∷ 3 ∷ 4 ∷ 5 ∷ 6 ∷ 7 ∷ 8 ∷ 9 ∷ 11 ∷ 12 ∷ 13 ∷ 14 ∷ 15 ∷ 16 ∷ 17 ∷ 18 ∷ 19 ∷ 20 ∷ 21 ∷ 22 ∷ 23 ∷ []
 
 others-pass : (call : Call) (event : Event) → T (hasTag others event) → false ≡ overTransmission call event
-others-pass call (Event.SetupRequest x y z) t = refl
+others-pass call (Event.SetupRequest x y z v) t = refl
 others-pass call Event.SetupResponse t = refl
 others-pass call Event.ReleaseRequest t = refl
 others-pass call (Event.TxRequest x) t = refl
 others-pass call (Event.ModifyRequest x) t = refl
 others-pass call (Event.DCallProceeding x) t = refl
 others-pass call (Event.DAlert x) t = refl
-others-pass call (Event.DConnect x y z w) t = refl
+others-pass call (Event.DConnect x y z w v) t = refl
 others-pass call (Event.DConnectAcknowledge x y z) t = refl
 others-pass call (Event.DSetup x y z) t = refl
-others-pass call (Event.DInfo x y z w) t = absurd t
+others-pass call (Event.DInfo x y z w v) t = absurd t
 others-pass call (Event.DTxGranted x y) t = refl
 others-pass call (Event.DTxCeased x) t = refl
 others-pass call (Event.DTxInterrupt x y) t = refl

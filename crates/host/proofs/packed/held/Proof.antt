@@ -28,7 +28,8 @@ held-spec =
     (λ c. search needs)
     (λ c. search needs)
     (λ c. search needs)
+    (λ c. search needs)
     (λ c.
-    let a = c .before .before .before .before .before .before in
+    let a = c .before .before .before .before .before .before .before in
     let p = a .before .before .before .before .before .before .before .before .before in
     rw (a .long-at .ensures, a .before .word-at .ensures, p .path-is .ensures, p .before .before .state-is .ensures)))

@@ -1,4 +1,4 @@
--- Seven bytes, seven more and the last seven are the whole.
+-- Seven bytes, seven more and the last eight are the whole.
 use borrow.Author.Needs.{needs}
 use Rattle.records.specs.Bytes.{bytes}
 use Rattle.host.specs.Packing.{names, settings, running, packed}

@@ -32,5 +32,6 @@ put-running-spec =
     (λ c. search needs)
     (λ c κs. search needs)
     (λ c. simp length-set (omega arith))
+    (λ c. simp length-set (omega arith))
     (λ c. simp length-set)
     (λ c. rw (c .before .before .before .before .before .before .flag .ensures, c .before .before .before .before .before .flag2 .ensures, c .before .before .before .before .flag3 .ensures, c .before .before .before .flag4 .ensures, c .before .before .flag5 .ensures, c .before .flag6 .ensures, c .flag7 .ensures)))

@@ -9,7 +9,7 @@ use Rattle.host_console.proofs.table.held_table.Statement.{statement}
 use Rattle.host_console.proofs.table.held_table.Tie as tie
 
 abbrev Inv-loop : tie.InvT-loop
-Inv-loop s calls₀ k₀ calls k = (calls ≡ heldFirst k s) × (k ≤ 8) × (length s ≡ 168)
+Inv-loop s calls₀ k₀ calls k = (calls ≡ heldFirst k s) × (k ≤ 8) × (length s ≡ 176)
 
 abbrev μ-loop : tie.MeasureT-loop
 μ-loop s calls₀ k₀ calls k = 8 - k

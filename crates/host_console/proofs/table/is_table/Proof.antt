@@ -12,7 +12,7 @@ use Rattle.host_console.proofs.table.is_table.Statement.{statement}
 use Rattle.host_console.proofs.table.is_table.Tie as tie
 
 abbrev Inv-loop : tie.InvT-loop
-Inv-loop s k₀ k = (firstAre k s ≡ true) × (k ≤ 8) × (length s ≡ 168)
+Inv-loop s k₀ k = (firstAre k s ≡ true) × (k ≤ 8) × (length s ≡ 176)
 
 abbrev μ-loop : tie.MeasureT-loop
 μ-loop s k₀ k = 8 - k

@@ -9,7 +9,7 @@ use Rattle.host_console.proofs.table.pack_table.Statement.{statement}
 use Rattle.host_console.proofs.table.pack_table.Tie as tie
 
 abbrev Inv-loop : tie.InvT-loop
-Inv-loop s₀ calls k₀ s k = Packing calls s₀ k s × (k ≤ 8) × (length s ≡ 168) × (length s₀ ≡ 168) × (length calls ≡ 8)
+Inv-loop s₀ calls k₀ s k = Packing calls s₀ k s × (k ≤ 8) × (length s ≡ 176) × (length s₀ ≡ 176) × (length calls ≡ 8)
 
 abbrev μ-loop : tie.MeasureT-loop
 μ-loop s₀ calls k₀ s k = 8 - k

@@ -1,7 +1,7 @@
 -- The head has a kind or is refused, and the rest is the reader of that kind.
 use borrow.Author.Needs.{needs}
 use Rattle.records.specs.Events.{events}
-use Rattle.records.proofs.Rows.{headless, headed}
+use Rattle.records.proofs.Rows.{headless, headed, of-all}
 use Rattle.records.proofs.events.read_event.Statement.{statement}
 use Rattle.records.proofs.events.read_event.Tie as tie
 
@@ -14,4 +14,4 @@ read-event-spec =
     (λ c. search needs)
     (λ c. headless events _ (rw (c .enum-told .given .1) at (c .before .before .kind-in .ensures)))
     (λ c κs. search needs)
-    (λ c. headed events _ (rw (c .before .before .kind .given .1) at (c .before .before .before .before .kind-in .ensures)) (c .read-kind .ensures)))
+    (λ c. headed events _ (rw (c .before .before .kind .given .1) at (c .before .before .before .before .kind-in .ensures)) (of-all events _ _ (c .read-user .ensures))))

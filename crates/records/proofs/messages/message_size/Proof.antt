@@ -1,7 +1,8 @@
--- Each arm answers the size of its kind's row.
+-- Each arm answers the size of its line.
 use borrow.Author.Needs.{needs}
 use Rattle.records.specs.Bodies.{flatSize}
 use Rattle.records.specs.Messages.{messageSize}
+use Rattle.records.proofs.Slots.{u-setup-size}
 use Rattle.records.proofs.messages.message_size.Statement.{statement}
 use Rattle.records.proofs.messages.message_size.Tie as tie
 
@@ -10,10 +11,10 @@ unfolding messageSize flatSize
 message-size-spec =
     tie.close
     (tie.spec
-    (λ c. search needs) (λ c. search needs) (λ c. search needs) (λ c. search needs) (λ c. search needs) (λ c. search needs) (λ c. search needs)
-    (λ c. search needs) (λ c. search needs) (λ c. search needs) (λ c. search needs) (λ c. search needs) (λ c. search needs) (λ c. search needs)
-    (λ c. search needs) (λ c. search needs) (λ c. search needs) (λ c. search needs) (λ c. search needs) (λ c. search needs) (λ c. search needs)
-    (λ c. search needs)
+    (λ c. search needs) (λ c. rw (c .before .before .m .given .1) (u-setup-size _ _ _ _ (c .if1 .taken)))
+    (λ c. search needs) (λ c. search needs) (λ c. search needs) (λ c. search needs) (λ c. search needs) (λ c. search needs) (λ c. search needs) (λ c. search needs) (λ c. search needs) (λ c. search needs) (λ c. search needs)
+    (λ c. search needs) (λ c. search needs) (λ c. search needs) (λ c. search needs) (λ c. search needs) (λ c. search needs) (λ c. search needs) (λ c. search needs) (λ c. search needs) (λ c. search needs) (λ c. search needs)
+    (λ c. rw (c .before .before .m .given .1, c .if1 .left))
     (λ c. rw (c .enum-told .given .1))
     (λ c. rw (c .enum-told2 .given .1))
     (λ c. rw (c .enum-told3 .given .1))

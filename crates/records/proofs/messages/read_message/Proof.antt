@@ -1,7 +1,7 @@
 -- The head has a kind or is refused, and the rest is the reader of that kind.
 use borrow.Author.Needs.{needs}
 use Rattle.records.specs.Messages.{messages}
-use Rattle.records.proofs.Rows.{headless, headed}
+use Rattle.records.proofs.Rows.{headless, headed, of-all}
 use Rattle.records.proofs.messages.read_message.Statement.{statement}
 use Rattle.records.proofs.messages.read_message.Tie as tie
 
@@ -14,4 +14,4 @@ read-message-spec =
     (λ c. search needs)
     (λ c. headless messages _ (rw (c .enum-told .given .1) at (c .before .before .kind-in .ensures)))
     (λ c κs. search needs)
-    (λ c. headed messages _ (rw (c .before .before .kind .given .1) at (c .before .before .before .before .kind-in .ensures)) (c .read-kind .ensures)))
+    (λ c. headed messages _ (rw (c .before .before .kind .given .1) at (c .before .before .before .before .kind-in .ensures)) (of-all messages _ _ (c .read-network .ensures))))

@@ -11,4 +11,4 @@ as-fresh-spec =
     (tie.spec
     (λ c κs. search needs)
     (λ c κs. search needs)
-    (λ c. rw (c .all-stopped .ensures, c .before .before .before .before .is-up .ensures)))
+    (λ c. rw (c .all-stopped .ensures, c .before .before .before .before .before .is-up .ensures)))

@@ -1,0 +1,59 @@
+-- Records that may carry slots at their end: with them they are the longer line of the table, without them the shorter.
+use Prim.Native.Nat.{ℕ, zero, suc}
+use mathlib.Core.Bool.{Bool, _&&_}
+use mathlib.Core.Path.{_≡_, refl}
+use Rattle.records.specs.declared.events.Event.{Event}
+use Rattle.records.specs.declared.messages.Message.{Message}
+use Rattle.records.specs.Letters.{fits, slotsFit, a₁, d, q, i, g, o, r, o₁₆, s}
+use Rattle.records.specs.Bodies.{flatSize}
+use Rattle.records.specs.Tables.{flatOf, flat, fine}
+use Rattle.records.specs.Events.{events, setupRequestSlots, dConnectSlots, dInfoSlots}
+use Rattle.records.specs.Messages.{messages, uSetupSlots, messageSize}
+use Rattle.records.proofs.Writing.{only, also, no-more, all-fit}
+
+pub carried-fit : (v : ℕ) → (v ≡ 0 → ⊥) → {b : Bool} → b ≡ fits s v → b ≡ slotsFit v
+carried-fit zero other e = absurd (other refl)
+carried-fit (suc m) other e = e
+
+-- ---- with slots
+
+pub setup-request-slots : (address mode ask slots : ℕ) → (slots ≡ 0 → ⊥) → flat events (Event.SetupRequest address mode ask slots) ≡ flatOf events setupRequestSlots (address, (mode, (ask, (slots, tt))))
+setup-request-slots address mode ask zero other = absurd (other refl)
+setup-request-slots address mode ask (suc m) other = refl
+
+pub d-connect-slots : (id grant mode code slots : ℕ) → (slots ≡ 0 → ⊥) → flat events (Event.DConnect id grant mode code slots) ≡ flatOf events dConnectSlots (id, (grant, (mode, (code, (slots, tt)))))
+d-connect-slots id grant mode code zero other = absurd (other refl)
+d-connect-slots id grant mode code (suc m) other = refl
+
+pub d-info-slots : (id reset code mode slots : ℕ) → (slots ≡ 0 → ⊥) → flat events (Event.DInfo id reset code mode slots) ≡ flatOf events dInfoSlots (id, (reset, (code, (mode, (slots, tt)))))
+d-info-slots id reset code mode zero other = absurd (other refl)
+d-info-slots id reset code mode (suc m) other = refl
+
+pub u-setup-slots : (address mode ask slots : ℕ) → (slots ≡ 0 → ⊥) → flat messages (Message.USetup address mode ask slots) ≡ flatOf messages uSetupSlots (address, (mode, (ask, (slots, tt))))
+u-setup-slots address mode ask zero other = absurd (other refl)
+u-setup-slots address mode ask (suc m) other = refl
+
+pub u-setup-size : (address mode ask slots : ℕ) → (slots ≡ 0 → ⊥) → 11 ≡ messageSize (Message.USetup address mode ask slots)
+unfolding messageSize flatSize
+u-setup-size address mode ask zero other = absurd (other refl)
+u-setup-size address mode ask (suc m) other = refl
+
+-- ---- the tests of their fields
+
+module _ {w x y z : Bool} where
+  pub setup-request-fits : (address mode ask slots : ℕ) → x ≡ fits a₁ address → y ≡ fits d mode → z ≡ fits q ask → w ≡ slotsFit slots → (x && (y && (z && w))) ≡ fine events (Event.SetupRequest address mode ask slots)
+  setup-request-fits address mode ask zero ex ey ez ew = all-fit events _ (also ex (also ey (also ez (no-more ew)))) refl
+  setup-request-fits address mode ask (suc m) ex ey ez ew = all-fit events _ (also ex (also ey (also ez (only ew)))) refl
+
+  pub u-setup-fits : (address mode ask slots : ℕ) → x ≡ fits a₁ address → y ≡ fits d mode → z ≡ fits q ask → w ≡ slotsFit slots → (x && (y && (z && w))) ≡ fine messages (Message.USetup address mode ask slots)
+  u-setup-fits address mode ask zero ex ey ez ew = all-fit messages _ (also ex (also ey (also ez (no-more ew)))) refl
+  u-setup-fits address mode ask (suc m) ex ey ez ew = all-fit messages _ (also ex (also ey (also ez (only ew)))) refl
+
+  module _ {u : Bool} where
+    pub d-connect-fits : (id grant mode code slots : ℕ) → u ≡ fits i id → x ≡ fits g grant → y ≡ fits d mode → z ≡ fits o code → w ≡ slotsFit slots → (u && (x && (y && (z && w)))) ≡ fine events (Event.DConnect id grant mode code slots)
+    d-connect-fits id grant mode code zero eu ex ey ez ew = all-fit events _ (also eu (also ex (also ey (also ez (no-more ew))))) refl
+    d-connect-fits id grant mode code (suc m) eu ex ey ez ew = all-fit events _ (also eu (also ex (also ey (also ez (only ew))))) refl
+
+    pub d-info-fits : (id reset code mode slots : ℕ) → u ≡ fits i id → x ≡ fits r reset → y ≡ fits o₁₆ code → z ≡ fits d mode → w ≡ slotsFit slots → (u && (x && (y && (z && w)))) ≡ fine events (Event.DInfo id reset code mode slots)
+    d-info-fits id reset code mode zero eu ex ey ez ew = all-fit events _ (also eu (also ex (also ey (also ez (no-more ew))))) refl
+    d-info-fits id reset code mode (suc m) eu ex ey ez ew = all-fit events _ (also eu (also ex (also ey (also ez (only ew))))) refl
