@@ -1,0 +1,6 @@
+pub mod Rooms
+pub mod Questions
+pub mod Runs
+pub mod Answers
+pub mod Demands
+pub mod Witness
