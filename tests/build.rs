@@ -8,7 +8,7 @@ use std::process::Command;
 use std::{env, fs, process};
 
 /// The archives that the tests link, all into one program: each has names of its own.
-const ARCHIVES: [&str; 2] = ["host", "host_console"];
+const ARCHIVES: [&str; 3] = ["host", "host_console", "host_test"];
 
 fn main() {
     println!("cargo:rustc-check-cfg=cfg(bridged)");

@@ -15,6 +15,11 @@
 #include <sys/mman.h>
 #include <unistd.h>
 
+/* Of the archive that only the tests link. */
+uint32_t callcontrol_test_record_in(uint8_t place, uint8_t size, const uint8_t *carry, size_t carry_len,
+                                    const uint8_t *piece, size_t piece_len, uint8_t *out,
+                                    size_t out_len);
+
 enum { RECORD, INPUT, OUT, SLICES };
 enum { IN_PLACE, AT_START, AT_END };
 
@@ -117,6 +122,9 @@ static uint32_t call(unsigned function, uint32_t number, uint8_t *const at[], co
     case 15:
         return play(function == 15, number, at[RECORD], len[RECORD], at[INPUT], len[INPUT],
                     at[OUT], len[OUT]);
+    case 31:
+        return callcontrol_test_record_in((uint8_t)number, (uint8_t)(number >> 8), at[RECORD],
+                                          len[RECORD], at[INPUT], len[INPUT], at[OUT], len[OUT]);
     }
     fail("no such function");
     return 0;

@@ -31,6 +31,9 @@ pub enum Function {
     // each step is lent. Gives how many records were handed in.
     Play = 14,
     ConsolePlay = 15,
+    // Of the tests' own archive: carry as the record, piece as the input; beside them the place and, above
+    // its 8 bits, the size that PiecesNext gave.
+    RecordIn = 31,
 }
 
 impl Function {
@@ -51,6 +54,7 @@ impl Function {
         Function::ConsoleStep,
         Function::Play,
         Function::ConsolePlay,
+        Function::RecordIn,
     ];
 
     /// Splits a result of this function into answer and what is counted.

@@ -79,6 +79,18 @@ impl<'a> Line<'a> {
         (word >> 24, word >> 16 & 0xFF, (word >> 8 & 0xFF) as usize, (word & 0xFF) as usize)
     }
 
+    /// `record_in` gives back, as a part of the carry or of the piece, the record that the numbers say.
+    fn given_back(&mut self, place: u32, size: usize, piece: &[u8], record: &[u8]) {
+        let filler = self.calls as u8 ^ 0x69;
+        let request = Request::of(Function::RecordIn, &self.carry, piece, 64, filler)
+            .with(place | (size as u32) << 8);
+        let said = self.queue.check(&request, |_, _, out| {
+            out[..size].copy_from_slice(record);
+            size as u32
+        });
+        assert_eq!(said.written(), record, "the record handed on");
+    }
+
     /// One piece, until nothing more is found in it. Gives the last answer.
     fn piece(&mut self, mut piece: &[u8]) -> u32 {
         loop {
@@ -92,6 +104,7 @@ impl<'a> Line<'a> {
             let record = match place {
                 0 => {
                     assert_eq!(used, piece.len(), "what is no whole record is carried");
+                    self.given_back(0, 0, piece, &[]);
                     return 0;
                 }
                 1 => {
@@ -104,7 +117,9 @@ impl<'a> Line<'a> {
                 }
                 _ => panic!("a record is found at {place}"),
             };
-            self.seen.records.push(record.to_vec());
+            let record = record.to_vec();
+            self.given_back(place, size, piece, &record);
+            self.seen.records.push(record);
             piece = &piece[used..];
         }
     }

@@ -118,6 +118,9 @@ fn call(function: Function, number: u32, [record, input, out]: [&mut [u8]; 3]) -
         Function::CopyMessage => copy_message(input, out),
         Function::PiecesFresh => super::pieces::fresh(record),
         Function::PiecesNext => super::pieces::next(record, out, input),
+        Function::RecordIn => {
+            super::pieces::record_in(number as u8, (number >> 8) as u8, record, input, out)
+        }
         Function::BankNew => bank::new(record, number),
         Function::BankStop => bank::stop(record, number as u16),
         Function::BankStart => {

@@ -11,6 +11,16 @@ mod exported {
             piece: *const u8,
             piece_len: usize,
         ) -> u32;
+        pub fn callcontrol_test_record_in(
+            place: u8,
+            size: u8,
+            carry: *const u8,
+            carry_len: usize,
+            piece: *const u8,
+            piece_len: usize,
+            out: *mut u8,
+            out_len: usize,
+        ) -> u32;
     }
 }
 
@@ -29,6 +39,22 @@ pub fn next(reader: &mut [u8], carry: &mut [u8], piece: &[u8]) -> u32 {
             carry.len(),
             piece.as_ptr(),
             piece.len(),
+        )
+    }
+}
+
+/// The record that `next` handed on with this place and size, copied.
+pub fn record_in(place: u8, size: u8, carry: &[u8], piece: &[u8], out: &mut [u8]) -> u32 {
+    unsafe {
+        exported::callcontrol_test_record_in(
+            place,
+            size,
+            carry.as_ptr(),
+            carry.len(),
+            piece.as_ptr(),
+            piece.len(),
+            out.as_mut_ptr(),
+            out.len(),
         )
     }
 }
