@@ -63,8 +63,8 @@ extern "C" {
 /* ---- Answers ------------------------------------------------------------------------------- */
 
 /*
- * The lowest number that applies is given, but that 8 comes after 6 and before 7, and a console's
- * 40 to 43 between 4 and 5. A refusal counts 0 bytes and changes no byte.
+ * The lowest number that applies is given, but that 9 comes after 3 and before 4, 8 after 6 and
+ * before 7, and a console's 40 to 43 between 4 and 5. A refusal counts 0 bytes and changes no byte.
  */
 enum callcontrol_answer {
     CALLCONTROL_TAKEN = 0,        /* taken; bytes written are counted */
@@ -76,6 +76,7 @@ enum callcontrol_answer {
     CALLCONTROL_NO_ROW = 6,       /* nothing is foreseen for this event in this state */
     CALLCONTROL_NO_ROOM = 7,      /* the messages are longer than the lent buffer */
     CALLCONTROL_OWN_TRANSMISSION = 8, /* D-INFO in plane 1 or 3; after 6 and before 7 */
+    CALLCONTROL_RETIRED = 9,          /* an event kind that is taken no more; after 3 and before 4 */
 
     /* Of a console alone, between 4 and 5. */
     CALLCONTROL_PLACE_OVER = 40,   /* the place that is named is over 7 */
@@ -192,7 +193,7 @@ enum callcontrol_event_kind {
     CALLCONTROL_SETUP_RESPONSE = 0x0102,
     CALLCONTROL_RELEASE_REQUEST = 0x0103,
     CALLCONTROL_TX_REQUEST = 0x0104,     /* k: 1 demand, 0 cease */
-    CALLCONTROL_MODIFY_REQUEST = 0x0105, /* d */
+    CALLCONTROL_MODIFY_REQUEST = 0x0105, /* retired: answer 9, whatever its body; its number is given to nothing else */
 
     CALLCONTROL_D_CALL_PROCEEDING = 0x0201,     /* i */
     CALLCONTROL_D_ALERT = 0x0202,               /* i */
@@ -222,7 +223,7 @@ enum callcontrol_message_kind {
     CALLCONTROL_U_CONNECT = 0x0502,      /* i */
     CALLCONTROL_U_DISCONNECT = 0x0503,   /* i c, 0 is the dummy identifier */
     CALLCONTROL_U_RELEASE = 0x0504,      /* i, 0 allowed */
-    CALLCONTROL_U_INFO = 0x0505,         /* i d */
+    CALLCONTROL_U_INFO = 0x0505,         /* i d: no step writes it any more */
     CALLCONTROL_U_TX_DEMAND = 0x0506,    /* i */
     CALLCONTROL_U_TX_CEASED = 0x0507,    /* i */
     CALLCONTROL_U_CALL_RESTORE = 0x0508, /* i a q */
@@ -256,7 +257,7 @@ uint32_t callcontrol_fresh(uint8_t *record, size_t record_len); /* in libhost.a 
 /*
  * Takes one event: rewrites the record, writes the messages it orders to the front of out, one
  * after another, and counts their bytes; later bytes of out stay as they are. A refusal (answers
- * 1 to 8) leaves record and out byte for byte. CALLCONTROL_RUN_MAX bytes are enough for a record that
+ * 1 to 9) leaves record and out byte for byte. CALLCONTROL_RUN_MAX bytes are enough for a record that
  * callcontrol_fresh wrote and only this function changed since, CALLCONTROL_STEP_MAX for any sound one.
  */
 uint32_t callcontrol_step(uint8_t *record, size_t record_len,
@@ -270,7 +271,7 @@ uint32_t callcontrol_console_fresh(uint8_t *table, size_t table_len); /* in libh
 
 /*
  * Takes one event for a console of eight calls. The table is eight records one after the other.
- * SETUP response, RELEASE, TX and MODIFY request, the REPORTs and expiry are for the place that is
+ * SETUP response, RELEASE and TX request, the REPORTs and expiry are for the place that is
  * named, 0 to 7; any other event finds its place itself, and place is not looked at: SETUP request
  * and D-SETUP go to the lowest IDLE place, other network events to the place outside IDLE that holds
  * their identifier, else to the one that has none. What a place orders follows a record
@@ -287,13 +288,13 @@ uint32_t callcontrol_console_step(uint8_t *table, size_t table_len, uint8_t plac
                                   const uint8_t *event, size_t event_len,
                                   uint8_t *out, size_t out_len); /* in libhost_console.a */
 
-/* Reads one event record: answer 0, 2, 3 or 4 with its place, count 0. */
+/* Reads one event record: answer 0, 2, 3, 9 or 4 with its place, count 0. */
 uint32_t callcontrol_check_event(const uint8_t *bytes, size_t len); /* in libhost.a */
 
 /* Reads one message record: answer 0, 2, 3 or 4 with its place, count 0. */
 uint32_t callcontrol_check_message(const uint8_t *bytes, size_t len); /* in libhost.a */
 
-/* Reads one event record and writes it back to out: answer 0 with its length, or 2, 3, 4 or 7. */
+/* Reads one event record and writes it back to out: answer 0 with its length, or 2, 3, 9, 4 or 7. */
 uint32_t callcontrol_copy_event(const uint8_t *bytes, size_t len, uint8_t *out, size_t out_len); /* in libhost.a */
 
 /* Reads one message record and writes it back to out: answer 0 with its length, or 2, 3, 4 or 7. */

@@ -25,7 +25,6 @@ static const struct kind kinds[] = {
     {CALLCONTROL_SETUP_RESPONSE, "SETUP response", ""},
     {CALLCONTROL_RELEASE_REQUEST, "RELEASE request", ""},
     {CALLCONTROL_TX_REQUEST, "TX request", "k"},
-    {CALLCONTROL_MODIFY_REQUEST, "MODIFY request", "d"},
     {CALLCONTROL_D_CALL_PROCEEDING, "D-CALL PROCEEDING", "i"},
     {CALLCONTROL_D_ALERT, "D-ALERT", "i"},
     {CALLCONTROL_D_CONNECT, "D-CONNECT", "igdos"},

@@ -66,7 +66,6 @@ fn label(event: Event) -> (u32, String) {
         Event::ReleaseRequest => (3, "RELEASE request"),
         Event::TxRequest { k: true } => (4, "TX demand"),
         Event::TxRequest { k: false } => (5, "TX cease"),
-        Event::ModifyRequest { .. } => (6, "MODIFY request"),
         Event::DCallProceeding { .. } => (7, "D-CALL PROCEEDING"),
         Event::DAlert { .. } => (8, "D-ALERT"),
         Event::DConnect { .. } => (9, "D-CONNECT"),

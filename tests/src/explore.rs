@@ -64,7 +64,6 @@ pub fn alphabet(letters: &Letters) -> Vec<Event> {
     events.push(Event::SetupResponse);
     events.push(Event::ReleaseRequest);
     events.extend(both.map(|k| Event::TxRequest { k }));
-    events.extend(Mode::ALL.iter().map(|&d| Event::ModifyRequest { d }));
     for &i in &identifiers {
         events.push(Event::DCallProceeding { i });
         events.push(Event::DAlert { i });

@@ -154,7 +154,7 @@ pub fn event(random: &mut Random, i: u16) -> Event {
 /// The same, with the old records alone.
 pub fn event_without_slots(random: &mut Random, i: u16) -> Event {
     let nonzero = if i == 0 { identifier(random) } else { i };
-    match random.below(24) {
+    match random.below(23) {
         0 => Event::SetupRequest {
             a: known_address(random),
             d: mode(random),
@@ -164,42 +164,41 @@ pub fn event_without_slots(random: &mut Random, i: u16) -> Event {
         1 => Event::SetupResponse,
         2 => Event::ReleaseRequest,
         3 => Event::TxRequest { k: random.flip() },
-        4 => Event::ModifyRequest { d: mode(random) },
-        5 => Event::DCallProceeding { i: nonzero },
-        6 => Event::DAlert { i: nonzero },
-        7 => Event::DConnect {
+        4 => Event::DCallProceeding { i: nonzero },
+        5 => Event::DAlert { i: nonzero },
+        6 => Event::DConnect {
             i: nonzero,
             g: grant(random),
             d: mode(random),
             o: t310_code(random),
             s: None,
         },
-        8 => Event::DConnectAcknowledge { i: nonzero, g: grant(random), o: t310_code(random) },
-        9 => Event::DSetup { i: nonzero, a: address(random), d: mode(random) },
-        10 => Event::DInfo {
+        7 => Event::DConnectAcknowledge { i: nonzero, g: grant(random), o: t310_code(random) },
+        8 => Event::DSetup { i: nonzero, a: address(random), d: mode(random) },
+        9 => Event::DInfo {
             i: nonzero,
             r: random.flip(),
             o: t310_code_or_absent(random),
             d: mode(random),
             s: None,
         },
-        11 => Event::DTxGranted { i: nonzero, g: grant(random) },
-        12 => Event::DTxCeased { i: nonzero },
-        13 => Event::DTxInterrupt { i: nonzero, g: grant(random) },
-        14 => Event::DTxWait { i: nonzero },
-        15 => Event::DTxContinue { i: nonzero, k: random.flip() },
-        16 => Event::DCallRestore {
+        10 => Event::DTxGranted { i: nonzero, g: grant(random) },
+        11 => Event::DTxCeased { i: nonzero },
+        12 => Event::DTxInterrupt { i: nonzero, g: grant(random) },
+        13 => Event::DTxWait { i: nonzero },
+        14 => Event::DTxContinue { i: nonzero, k: random.flip() },
+        15 => Event::DCallRestore {
             i: nonzero,
             g: grant(random),
             r: random.flip(),
             o: t310_code_or_absent(random),
         },
-        17 => Event::DDisconnect { i },
-        18 => Event::DRelease { i },
-        19 => Event::ReportSent,
-        20 => Event::ReportFailed,
-        21 => Event::Break,
-        22 => Event::Resume,
+        16 => Event::DDisconnect { i },
+        17 => Event::DRelease { i },
+        18 => Event::ReportSent,
+        19 => Event::ReportFailed,
+        20 => Event::Break,
+        21 => Event::Resume,
         _ => Event::Expiry { n: random.pick(Timer::ALL) },
     }
 }
@@ -294,8 +293,9 @@ pub fn likely_event_without_slots(random: &mut Random, call: &Call, ending: usiz
         }
         (State::CallActive, Path::Up) => match random.below(13) {
             0..=2 => Event::TxRequest { k },
-            3 => Event::ModifyRequest { d: mode(random) },
-            4 => Event::DInfo { i, r, o: t310_code_or_absent(random), d: mode(random), s: None },
+            3 | 4 => {
+                Event::DInfo { i, r, o: t310_code_or_absent(random), d: mode(random), s: None }
+            }
             5..=7 => Event::DTxGranted { i, g: grant(random) },
             8 => Event::DTxCeased { i },
             9 => Event::DTxInterrupt { i, g: grant(random) },
@@ -420,10 +420,10 @@ pub fn damaged_record(random: &mut Random) -> Bytes {
     record
 }
 
-/// An event record made wrong: short, long, of another kind, or with a byte changed.
+/// An event record made wrong: short, long, of another kind or a retired one, or with a byte changed.
 pub fn damaged_event(random: &mut Random, event: Event) -> Bytes {
     let mut record = Bytes::of_event(event);
-    match random.below(10) {
+    match random.below(11) {
         0 => record.len = random.below(record.len),
         1 => record.len += 1 + random.below(Bytes::ROOM - MAX_RECORD_LEN),
         2 => {
@@ -438,7 +438,9 @@ pub fn damaged_event(random: &mut Random, event: Event) -> Bytes {
         }
         5 => record.bytes[2 + random.below(2)] = random.byte(),
         6 => record.bytes[2] = record.bytes[2].wrapping_add(random.pick(&[1, 255])),
-        7 => {
+        // MODIFY request, whatever its body.
+        7 => record.bytes[2..4].copy_from_slice(&[0x05, 0x01]),
+        8 => {
             record.len = random.below(Bytes::ROOM);
             for byte in &mut record.bytes[..record.len] {
                 *byte = random.byte();

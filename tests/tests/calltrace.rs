@@ -55,6 +55,7 @@ histories! {
     no_limit_restored
     own_transmission
     slots
+    older_set
     expiry_t301
     expiry_t302
     expiry_t303

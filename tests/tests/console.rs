@@ -30,7 +30,7 @@ const _: () = assert!(EVENTS_IN_ALL >= 10_000_000);
 
 /// Events seen, by answer.
 type Answers = [u64; 44];
-const ANSWERS: [usize; 11] = [0, 1, 2, 3, 4, 40, 41, 42, 43, 5, 6];
+const ANSWERS: [usize; 12] = [0, 1, 2, 3, 9, 4, 40, 41, 42, 43, 5, 6];
 
 /// A table's record at a place.
 fn record(table: &[u8], place: usize) -> &[u8] {
@@ -431,7 +431,6 @@ fn every_table_of_two_busy_places_and_every_event() {
             Event::SetupResponse
                 | Event::ReleaseRequest
                 | Event::TxRequest { .. }
-                | Event::ModifyRequest { .. }
                 | Event::ReportSent
                 | Event::ReportFailed
                 | Event::Expiry { .. }
@@ -554,7 +553,7 @@ fn every_place_beside_every_kind_of_event() {
     for event in kinds {
         let bytes = Bytes::of_event(event);
         let kind = u16::from_le_bytes([bytes.as_slice()[2], bytes.as_slice()[3]]);
-        let names = matches!(kind, 0x0102..=0x0105 | 0x0301 | 0x0302 | 0x0401);
+        let names = matches!(kind, 0x0102..=0x0104 | 0x0301 | 0x0302 | 0x0401);
         for place in 0..=255 {
             host.table = table;
             host.alone[0].0 = call(&table, 0);
@@ -591,16 +590,19 @@ fn refusals_come_in_their_order() {
         console.pack()
     };
     let bytes_of = |event: Event| Bytes::of_event(event).as_slice().to_vec();
-    let damaged: [(&[u8], u32); 4] = [
+    let damaged: [(&[u8], u32); 6] = [
         (&[4, 0, 3], 2),
         (&[5, 0, 0x03, 0x01], 2),
         (&[4, 0, 0xFF, 0x01], 3),
+        // MODIFY request is retired, whatever its body.
+        (&[5, 0, 0x05, 0x01, 1], 9),
+        (&[6, 0, 0x05, 0x01, 2, 2], 9),
         (&[5, 0, 0x04, 0x01, 2], 4),
     ];
     let full = held(&[1, 2, 3, 4, 5, 6, 7, 8]);
     let full_without = held(&[1, 2, 3, 0, 5, 6, 7, 8]);
 
-    // 1 before all: each of its reasons, with an event that would be 2, 3, 4, 40, 41, 42, 5 or 6.
+    // 1 before all: each of its reasons, with an event that would be 2, 3, 9, 4, 40, 41, 42, 5 or 6.
     let mut unsound = held(&[]);
     unsound[RECORD_LEN * 7 + 9] = 1;
     let mut no_record = held(&[]);
@@ -614,8 +616,8 @@ fn refusals_come_in_their_order() {
     ];
     let none: [&[u8]; 8] = [
         &[],
-        &full[..147],
-        &full[..167],
+        &full[..154],
+        &full[..168],
         &[full, full].concat(),
         &unsound,
         &no_record,
@@ -630,7 +632,7 @@ fn refusals_come_in_their_order() {
             expect(table, 9, event, 0, 1);
         }
     }
-    // 2, 3 and 4 before the place is looked at, and whatever the table holds.
+    // 2, 3, 9 and 4 before the place is looked at, and whatever the table holds.
     for (event, answer) in damaged {
         for table in [&full, &full_without, &held(&[])] {
             expect(table, 9, event, 0, answer);

@@ -25,7 +25,7 @@ const STEPS_IN_ALL: u64 = THREADS
 const _: () = assert!(STEPS_IN_ALL >= 20_000_000);
 
 /// Steps seen, by answer.
-type Answers = [u64; 9];
+type Answers = [u64; 10];
 
 /// Mostly room enough, and every length from 0 to 64.
 fn out_len(random: &mut Random) -> usize {
@@ -53,6 +53,7 @@ fn running_after(before: Running, event: &[u8], step: &Said) -> Running {
     let taken = before.taken(Event::read(event).expect("what is taken can be read"));
     records::messages(step.written()).fold(taken, |running, message| {
         let message = message.expect("only messages are written");
+        assert!(!matches!(message, Message::UInfo { .. }), "no step writes U-INFO");
         running.told(message).expect("STOP is written only for a running timer")
     })
 }
@@ -216,7 +217,7 @@ fn library_and_account_agree_on_generated_steps() {
         ("damaged events", damaged_events),
     ];
     let mut all = Answers::default();
-    tell("steps by answer                      0         1         2         3         4         5         6         7         8");
+    tell("steps by answer                      0         1         2         3         4         5         6         7         8         9");
     for (number, (name, part)) in parts.into_iter().enumerate() {
         let answers = thread::scope(|scope| {
             let threads: Vec<_> = (0..THREADS)
@@ -225,14 +226,14 @@ fn library_and_account_agree_on_generated_steps() {
             let mut sum = Answers::default();
             for thread in threads {
                 match thread.join() {
-                    Ok(answers) => (0..9).for_each(|answer| sum[answer] += answers[answer]),
+                    Ok(answers) => (0..10).for_each(|answer| sum[answer] += answers[answer]),
                     Err(difference) => std::panic::resume_unwind(difference),
                 }
             }
             sum
         });
         tell(&row(name, &answers));
-        (0..9).for_each(|answer| all[answer] += answers[answer]);
+        (0..10).for_each(|answer| all[answer] += answers[answer]);
     }
     tell(&row("all", &all));
     assert_eq!(all.iter().sum::<u64>(), STEPS_IN_ALL);

@@ -21,7 +21,7 @@ fn every_reachable_record_and_event_agree() {
     let events = written(alphabet(&Letters::ENDS));
     let first = Node { record: Call::FRESH.pack(), history: History::EMPTY };
     let mut steps = 0u64;
-    let mut answers = [0u64; 9];
+    let mut answers = [0u64; 10];
     let mut longest = 0;
     let mut longest_steps = HashSet::new();
     let mut queue = Queue::new();
@@ -68,6 +68,13 @@ fn every_reachable_record_and_event_agree() {
         assert_eq!(last_configure(&written).unwrap_or(before), call.plane);
         Some(next)
     });
+    // MODIFY request, retired: 9 everywhere, and the record stays.
+    for node in &nodes {
+        let step = queue.step(&node.record, &[5, 0, 0x05, 0x01, steps as u8], 64, steps as u8);
+        assert_eq!((step.answer, step.place, step.count), (9, 0, 0));
+        assert_eq!(step.next(), node.record);
+        steps += 1;
+    }
     queue.finish();
 
     let records: HashSet<[u8; RECORD_LEN]> = nodes.iter().map(|node| node.record).collect();
@@ -243,6 +250,10 @@ fn every_sound_record_over_few_values_and_every_event_agree() {
             let next = Call::unpack(whole.record).expect("a step gives a record back");
             assert!(next.sound(), "every step from a sound record gives a sound one");
             assert_ne!(whole.answer, 7, "64 bytes are enough for every step");
+            for message in records::messages(whole.written()) {
+                let message = message.expect("only messages are written");
+                assert!(!matches!(message, Message::UInfo { .. }), "no step writes U-INFO");
+            }
         }
     }
     queue.finish();

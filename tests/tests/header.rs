@@ -135,6 +135,25 @@ fn the_headers_sizes_are_the_librarys() {
     assert_eq!(fields.last(), Some(&("CALLCONTROL_AT_SLOTS".to_owned(), 21)));
 }
 
+/// The retired kind keeps its name, and is the only one to be answered with 9.
+#[test]
+fn the_headers_retired_kind_is_the_librarys() {
+    let named: BTreeSet<u32> = enumerators("callcontrol_event_kind")
+        .into_iter()
+        .filter(|(name, _)| name == "CALLCONTROL_MODIFY_REQUEST")
+        .map(|(_, kind)| kind)
+        .collect();
+    let retired = answered(
+        Function::CheckEvent,
+        |answer| answer == 9,
+        0..=0xFFFF,
+        |kind| vec![5, 0, kind as u8, (kind >> 8) as u8, 0],
+    );
+    assert_eq!((named.len(), named), (1, retired));
+    let answers = enumerators("callcontrol_answer");
+    assert!(answers.contains(&("CALLCONTROL_RETIRED".to_owned(), 9)));
+}
+
 #[test]
 fn the_headers_timers_and_planes_are_the_librarys() {
     let timers: BTreeSet<u32> =

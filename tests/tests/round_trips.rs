@@ -130,7 +130,7 @@ impl Letter {
 /// A kind that may carry slots has a line for each of its two bodies.
 #[rustfmt::skip]
 const EVENTS: &[(u16, &[Letter])] = &[
-    (0x0101, &[A, Bit, Bit]), (0x0101, &[A, Bit, Bit, S]), (0x0102, &[]), (0x0103, &[]), (0x0104, &[Bit]), (0x0105, &[Bit]),
+    (0x0101, &[A, Bit, Bit]), (0x0101, &[A, Bit, Bit, S]), (0x0102, &[]), (0x0103, &[]), (0x0104, &[Bit]),
     (0x0201, &[I]), (0x0202, &[I]), (0x0203, &[I, G, Bit, O]), (0x0203, &[I, G, Bit, O, S]),
     (0x0204, &[I, G, O]), (0x0205, &[I, A0, Bit]),
     (0x0206, &[I, Bit, O16, Bit]), (0x0206, &[I, Bit, O16, Bit, S]), (0x0207, &[I, G]), (0x0208, &[I]),
@@ -171,6 +171,9 @@ type Expected = (u32, usize);
 const TAKEN: Expected = (0, 0);
 const LENGTH: Expected = (2, 0);
 const KIND: Expected = (3, 0);
+const RETIRED: Expected = (9, 0);
+/// MODIFY request, an event no more.
+const MODIFY_REQUEST: u16 = 0x0105;
 /// A body of a wrong size is bad at 2.
 const SIZE: Expected = (4, 2);
 
@@ -216,6 +219,11 @@ impl Side {
     fn letters(&self, kind: u16, size: usize) -> Option<&'static [Letter]> {
         let fits = |line: &&(u16, &[Letter])| line.0 == kind && size_of(line.1) == size;
         self.kinds.iter().find(fits).map(|line| line.1)
+    }
+
+    /// Whether the reader of this side answers 9 to this kind.
+    fn retires(&self, kind: u16) -> bool {
+        self.check == Function::CheckEvent && kind == MODIFY_REQUEST
     }
 
     /// Hands `bytes` to the library's reader and, with every length of buffer that matters, to
@@ -463,7 +471,7 @@ fn random_records_in_range_come_back_as_they_were() {
 fn damaged_records_get_the_accounts_answer() {
     let mut queue = Queue::new();
     let mut random = Random::new(0xBAD);
-    let mut answers = [0u64; 8];
+    let mut answers = [0u64; 10];
     for _ in 0..1_000_000 {
         let i = generate::identifier(&mut random);
         let event = generate::event(&mut random, i);
@@ -481,9 +489,36 @@ fn damaged_records_get_the_accounts_answer() {
     }
     queue.finish();
     tell(&format!("damaged records by answer {answers:?}"));
-    for answer in [0, 2, 3, 4] {
+    for answer in [0, 2, 3, 9, 4] {
         assert!(answers[answer] > 0, "answer {answer} was never seen");
     }
+}
+
+/// 0105 is no event, whatever its body: 9 with place 0, behind 2 and before 4. It is no message either,
+/// and its neighbours are what they were; U-INFO, which it used to lead to, is still read and written.
+#[test]
+fn modify_request_is_retired() {
+    let mut queue = Queue::new();
+    let [events, messages] = &SIDES;
+    for len in 4..=64u8 {
+        for filler in [0, 1, 2, 255] {
+            let mut bytes = vec![filler; len.into()];
+            bytes[..4].copy_from_slice(&[len, 0, 0x05, 0x01]);
+            events.expect(&mut queue, &bytes, RETIRED);
+            messages.expect(&mut queue, &bytes, KIND);
+            bytes[0] = len + 1;
+            events.expect(&mut queue, &bytes, LENGTH);
+        }
+    }
+    events.expect(&mut queue, &[5, 0, 0x04, 0x01, 2], bad(4));
+    events.expect(&mut queue, &[5, 0, 0x06, 0x01, 1], KIND);
+    events.expect(&mut queue, &[5, 0, 0x05, 0x02, 1], SIZE);
+    for d in [0, 1] {
+        messages.expect(&mut queue, &[7, 0, 0x05, 0x05, 21, 0, d], TAKEN);
+        events.expect(&mut queue, &[7, 0, 0x05, 0x05, 21, 0, d], KIND);
+    }
+    messages.expect(&mut queue, &[7, 0, 0x05, 0x05, 21, 0, 2], bad(6));
+    queue.finish();
 }
 
 #[test]
@@ -582,6 +617,7 @@ fn all_65536_kinds_with_several_body_sizes() {
                 bytes[..2].copy_from_slice(&(4 + body_len as u16).to_le_bytes());
                 bytes[2..4].copy_from_slice(&kind.to_le_bytes());
                 let expected = match (known, side.letters(kind, body_len)) {
+                    _ if side.retires(kind) => RETIRED,
                     (None, _) => KIND,
                     (_, None) => SIZE,
                     (_, Some(letters)) => {
@@ -599,8 +635,10 @@ fn all_65536_kinds_with_several_body_sizes() {
                 if known.is_some() {
                     side.expect(&mut queue, &bytes, expected);
                 } else {
-                    side.expect_of_reader(&mut queue, &bytes, KIND);
-                    queue.check(&Request::copy(side.copy, &bytes, 16, 0x7E), |_, _, _| word(KIND));
+                    side.expect_of_reader(&mut queue, &bytes, expected);
+                    queue.check(&Request::copy(side.copy, &bytes, 16, 0x7E), |_, _, _| {
+                        word(expected)
+                    });
                 }
             }
         }

@@ -359,10 +359,6 @@ fn call_active_path_up_by_the_user() {
         asked(active(Plane::Off)),
         &[stop(T311), UTxCeased { i: I }, OFF],
     );
-    for d in [Simplex, Duplex] {
-        let call = active(Plane::Transmit);
-        row(call, ModifyRequest { d }, call, &[UInfo { i: I, d }]);
-    }
     row(
         active(Plane::Transmit),
         Expiry { n: T311 },
@@ -472,6 +468,44 @@ fn d_info() {
     no_row(broken(), info(false, None, Simplex));
     no_row(restoring(), info(false, None, Simplex));
     no_row(wait(Plane::Off), info(false, None, Simplex));
+}
+
+/// MODIFY request, 0105, is retired: 9 in every state, whatever its body, before 4 and before 7, and
+/// after 1 and 2; the call is unchanged.
+#[test]
+fn modify_request_is_retired() {
+    let calls = [
+        Call::FRESH,
+        mo(),
+        mo_proceeding(),
+        mt(),
+        active(Plane::Off),
+        active(Plane::Transmit),
+        duplex(active(Plane::TransmitAndReceive)),
+        broken(),
+        restoring(),
+        wait(Plane::Receive),
+        disconnect(),
+    ];
+    for call in calls {
+        for body in [&[][..], &[0], &[1], &[2], &[255], &[1, 0], &[0; 60]] {
+            let event = [&[4 + body.len() as u8, 0, 0x05, 0x01], body].concat();
+            let mut record = call.pack();
+            for room in [0, 32] {
+                let mut out = vec![0xEE; room];
+                let word = library::step(&mut record, &event, &mut out);
+                assert_eq!(word, 9 << 24, "{body:?} at {call:?}");
+                assert_eq!(record, call.pack());
+                assert!(out.iter().all(|&byte| byte == 0xEE));
+            }
+            // 2 and 1 come before it.
+            let mut longer = event.clone();
+            longer.push(0);
+            assert_eq!(library::step(&mut record, &longer, &mut []), 2 << 24);
+            record[11] = 0;
+            assert_eq!(library::step(&mut record, &event, &mut []), 1 << 24);
+        }
+    }
 }
 
 /// The slots: SETUP request, D-CONNECT and D-INFO store those that they carry and else keep the held
@@ -677,7 +711,6 @@ fn break_and_resume() {
     row(asked(broken()), TxRequest { k: false }, broken(), &[]);
     no_row(broken(), TxRequest { k: false });
     no_row(broken(), Break);
-    no_row(broken(), ModifyRequest { d: Duplex });
     no_row(broken(), DTxGranted { i: I, g: Granted });
     no_row(broken(), DCallRestore { i: I, g: Granted, r: false, o: None });
 
@@ -759,7 +792,6 @@ fn wait_rows() {
         for event in [
             TxRequest { k: true },
             TxRequest { k: false },
-            ModifyRequest { d: Simplex },
             DTxGranted { i: I, g: Granted },
             DTxCeased { i: I },
             DTxInterrupt { i: I, g: Granted },

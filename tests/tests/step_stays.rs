@@ -6,8 +6,8 @@ use callcontrol_tests::programs::{code_of, stack_used};
 use callcontrol_tests::tape::tape;
 
 /// Bytes that a program has more for naming `callcontrol_step`, and bytes of stack of a step.
-const CODE: usize = 10406;
-const STACK: usize = 425;
+const CODE: usize = 10200;
+const STACK: usize = 393;
 
 /// As measured, and 2 % more.
 fn held(what: &str, bytes: usize, measured: usize) {

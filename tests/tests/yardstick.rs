@@ -63,7 +63,7 @@ fn room(random: &mut Random, most: usize) -> usize {
 #[test]
 fn a_step_in_c_is_the_accounts_step() {
     let mut random = Random::new(0x57E9);
-    let mut answers = [0; 9];
+    let mut answers = [0; 10];
     let mut record = Call::FRESH.pack().to_vec();
     for _ in 0..STEPS {
         // On from the last record, from any sound one, or from bytes that may be none.
@@ -190,7 +190,7 @@ fn a_console_step_in_c_is_the_accounts_step() {
             _ => after,
         };
     }
-    for answer in [0, 1, 2, 3, 4, 5, 6, 7, 8, 40, 41, 42, 43] {
+    for answer in [0, 1, 2, 3, 4, 5, 6, 7, 8, 9, 40, 41, 42, 43] {
         assert!(answers[answer] > 10, "every answer is met: {answer}: {answers:?}");
     }
 }

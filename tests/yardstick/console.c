@@ -72,7 +72,7 @@ uint32_t PLAIN(console_step)(uint8_t *table, size_t table_len, uint8_t place, co
         if (at == PLACES)
             return REFUSED(43, 0);
         break;
-    case 0x0102: case 0x0103: case 0x0104: case 0x0105: case 0x0301: case 0x0302: case 0x0401:
+    case 0x0102: case 0x0103: case 0x0104: case 0x0301: case 0x0302: case 0x0401:
         if (place >= PLACES)
             return REFUSED(40, 0);
         at = place;

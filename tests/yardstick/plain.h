@@ -154,11 +154,8 @@ static inline uint32_t read_event(struct event *e, const uint8_t *b, size_t len)
         e->k = b[4];
         ASK(e->k <= 1, 4);
         return 0;
-    case 0x0105: /* MODIFY request d */
-        SIZE(1);
-        e->d = b[4];
-        ASK(e->d <= 1, 4);
-        return 0;
+    case 0x0105: /* MODIFY request, retired */
+        return REFUSED(9, 0);
     case 0x0201: case 0x0202: case 0x0208: case 0x020A: /* i */
         SIZE(2);
         e->i = u16_at(b + 4);
@@ -366,11 +363,6 @@ static inline uint32_t row(struct call *c, const struct event *e, struct orders 
             c->asked = 0;
         } else
             return 6;
-        return 0;
-    case 0x0105:
-        if (s != ACTIVE || c->path != UP)
-            return 6;
-        pdu(o, HEAD(3, 0x0505), c->id | (uint64_t)e->d << 16);
         return 0;
     case 0x0201: case 0x0202:
         if (s != MO)

@@ -15,7 +15,7 @@ answer-back n =
     (cond (eqb n 1) Answer.NotSound
     (cond (eqb n 2) Answer.BadLength
     (cond (eqb n 3) Answer.UnknownKind
-    (cond (eqb n 4) Answer.BadBody (cond (eqb n 5) Answer.OtherCall (cond (eqb n 6) Answer.NoRow (cond (eqb n 7) Answer.NoRoom Answer.OwnTransmission)))))))
+    (cond (eqb n 4) Answer.BadBody (cond (eqb n 5) Answer.OtherCall (cond (eqb n 6) Answer.NoRow (cond (eqb n 7) Answer.NoRoom (cond (eqb n 8) Answer.OwnTransmission Answer.Retired))))))))
 
 answer-same : (a : Answer) → answer-back (answerNumber a) ≡ a
 unfolding answer-back
@@ -23,6 +23,7 @@ answer-same Answer.Taken = refl
 answer-same Answer.NotSound = refl
 answer-same Answer.BadLength = refl
 answer-same Answer.UnknownKind = refl
+answer-same Answer.Retired = refl
 answer-same Answer.BadBody = refl
 answer-same Answer.OtherCall = refl
 answer-same Answer.NoRow = refl

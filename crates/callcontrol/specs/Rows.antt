@@ -4,8 +4,8 @@ use Prim.Native.Nat.{ℕ}
 use mathlib.Core.Bool.{Bool, true, false, cond, not, _&&_, _||_}
 use lib.Dec.{leb, eqb}
 use Rattle.records.specs.declared.events.Event.{Event}
-use Rattle.records.specs.declared.events.Event.the-variants.{SetupRequest, SetupResponse, ReleaseRequest, TxRequest, ModifyRequest, DCallProceeding, DAlert, DConnect, DConnectAcknowledge, DSetup, DInfo, DTxGranted, DTxCeased, DTxInterrupt, DTxWait, DTxContinue, DCallRestore, DDisconnect, DRelease, ReportSent, ReportFailed, Break, Resume, Expiry}
-use Rattle.records.specs.declared.messages.Message.the-variants.{USetup, UConnect, URelease, UInfo, UTxDemand, UTxCeased, UCallRestore, SetupIndication, SetupConfirm, Proceed, Alert, Complete, ReleaseIndication, ReleaseConfirm, TxIndication}
+use Rattle.records.specs.declared.events.Event.the-variants.{SetupRequest, SetupResponse, ReleaseRequest, TxRequest, DCallProceeding, DAlert, DConnect, DConnectAcknowledge, DSetup, DInfo, DTxGranted, DTxCeased, DTxInterrupt, DTxWait, DTxContinue, DCallRestore, DDisconnect, DRelease, ReportSent, ReportFailed, Break, Resume, Expiry}
+use Rattle.records.specs.declared.messages.Message.the-variants.{USetup, UConnect, URelease, UTxDemand, UTxCeased, UCallRestore, SetupIndication, SetupConfirm, Proceed, Alert, Complete, ReleaseIndication, ReleaseConfirm, TxIndication}
 use Rattle.callcontrol.specs.declared.call.State.{State}
 use Rattle.callcontrol.specs.declared.call.Path.{Path}
 use Rattle.callcontrol.specs.declared.call.Call.{Call}
@@ -45,7 +45,6 @@ idle c (SetupRequest a d q s) =
 idle c SetupResponse = noRow c
 idle c ReleaseRequest = noRow c
 idle c (TxRequest k) = noRow c
-idle c (ModifyRequest d) = noRow c
 idle c (DCallProceeding i) = noRow c
 idle c (DAlert i) = noRow c
 idle c (DConnect i g d o s) = noRow c
@@ -74,7 +73,6 @@ moCallSetup c SetupResponse = noRow c
 -- 14.5.1.3.1
 moCallSetup c ReleaseRequest = cond (eqb (c .sent) 0) (draft c ▷ cancel ▷ stop T303 ▷ tell ReleaseConfirm ▷ over) (releasing c)
 moCallSetup c (TxRequest k) = noRow c
-moCallSetup c (ModifyRequest d) = noRow c
 -- 14.5.1.1.2
 moCallSetup c (DCallProceeding i) = draft c ▷ storeId i ▷ storeSent 1 ▷ stop T303 ▷ start T302 ▷ tell Proceed
 -- 14.5.1.1.2
@@ -123,7 +121,6 @@ mtCallSetup c SetupResponse = cond (runs c T301) (noRow c) (draft c ▷ say (UCo
 -- 14.5.1.3.1
 mtCallSetup c ReleaseRequest = releasing c
 mtCallSetup c (TxRequest k) = noRow c
-mtCallSetup c (ModifyRequest d) = noRow c
 mtCallSetup c (DCallProceeding i) = noRow c
 mtCallSetup c (DAlert i) = noRow c
 mtCallSetup c (DConnect i g d o s) = noRow c
@@ -194,7 +191,6 @@ activeUp c ReleaseRequest = releasing c
 -- 14.5.1.2.1
 activeUp c (TxRequest k) = cond (eqb k 1) (demands c) (ceases c)
 -- 14.5.1.2.3
-activeUp c (ModifyRequest d) = draft c ▷ say (UInfo (c .id) d)
 activeUp c (DCallProceeding i) = noRow c
 activeUp c (DAlert i) = noRow c
 activeUp c (DConnect i g d o s) = noRow c
@@ -233,7 +229,6 @@ activeBroken c SetupResponse = noRow c
 activeBroken c ReleaseRequest = releasing c
 -- 14.5.1.2.4
 activeBroken c (TxRequest k) = cond (eqb (c .asked) k) (noRow c) (draft c ▷ storeAsked k)
-activeBroken c (ModifyRequest d) = noRow c
 activeBroken c (DCallProceeding i) = noRow c
 activeBroken c (DAlert i) = noRow c
 activeBroken c (DConnect i g d o s) = noRow c
@@ -270,7 +265,6 @@ activeRestoring c SetupResponse = noRow c
 -- 14.5.1.3.1
 activeRestoring c ReleaseRequest = releasing c
 activeRestoring c (TxRequest k) = noRow c
-activeRestoring c (ModifyRequest d) = noRow c
 activeRestoring c (DCallProceeding i) = noRow c
 activeRestoring c (DAlert i) = noRow c
 activeRestoring c (DConnect i g d o s) = noRow c
@@ -303,7 +297,6 @@ wait c SetupResponse = noRow c
 -- 14.5.1.3.1
 wait c ReleaseRequest = releasing c
 wait c (TxRequest k) = noRow c
-wait c (ModifyRequest d) = noRow c
 wait c (DCallProceeding i) = noRow c
 wait c (DAlert i) = noRow c
 wait c (DConnect i g d o s) = noRow c
@@ -342,7 +335,6 @@ callDisconnect c (SetupRequest a d q s) = noRow c
 callDisconnect c SetupResponse = noRow c
 callDisconnect c ReleaseRequest = noRow c
 callDisconnect c (TxRequest k) = noRow c
-callDisconnect c (ModifyRequest d) = noRow c
 callDisconnect c (DCallProceeding i) = noRow c
 callDisconnect c (DAlert i) = noRow c
 callDisconnect c (DConnect i g d o s) = noRow c

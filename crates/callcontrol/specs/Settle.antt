@@ -87,17 +87,14 @@ U-DISCONNECT = 0x30000
 abbrev pub U-RELEASE : ℕ
 U-RELEASE = 0x40000
 
-abbrev pub U-INFO : ℕ
-U-INFO = 0x50000
-
 abbrev pub U-TX-DEMAND : ℕ
-U-TX-DEMAND = 0x60000
+U-TX-DEMAND = 0x50000
 
 abbrev pub U-TX-CEASED : ℕ
-U-TX-CEASED = 0x70000
+U-TX-CEASED = 0x60000
 
 abbrev pub U-CALL-RESTORE : ℕ
-U-CALL-RESTORE = 0x80000
+U-CALL-RESTORE = 0x70000
 
 abbrev pub SETUP-INDICATION : ℕ
 SETUP-INDICATION = 0x100000
@@ -317,10 +314,9 @@ pduBy r =
     (cond (eqb (r .orders / U-SETUP % 16) 2) (Slot.Holds (Message.UConnect (r .id)))
     (cond (eqb (r .orders / U-SETUP % 16) 3) (Slot.Holds (Message.UDisconnect (r .id) (r .value)))
     (cond (eqb (r .orders / U-SETUP % 16) 4) (Slot.Holds (Message.URelease (r .id)))
-    (cond (eqb (r .orders / U-SETUP % 16) 5) (Slot.Holds (Message.UInfo (r .id) (r .value)))
-    (cond (eqb (r .orders / U-SETUP % 16) 6) (Slot.Holds (Message.UTxDemand (r .id)))
-    (cond (eqb (r .orders / U-SETUP % 16) 7) (Slot.Holds (Message.UTxCeased (r .id)))
-    (cond (eqb (r .orders / U-SETUP % 16) 8) (Slot.Holds (Message.UCallRestore (r .id) (r .address) (r .asked))) Slot.Empty)))))))
+    (cond (eqb (r .orders / U-SETUP % 16) 5) (Slot.Holds (Message.UTxDemand (r .id)))
+    (cond (eqb (r .orders / U-SETUP % 16) 6) (Slot.Holds (Message.UTxCeased (r .id)))
+    (cond (eqb (r .orders / U-SETUP % 16) 7) (Slot.Holds (Message.UCallRestore (r .id) (r .address) (r .asked))) Slot.Empty))))))
 
 unfoldable pub userBy : Row → Slot
 userBy r =

@@ -7,7 +7,7 @@ use lib.Dec.{leb, eqb}
 use lib.ListN.{length}
 use lib.Seq.{sets}
 use Rattle.records.specs.declared.events.Event.{Event}
-use Rattle.records.specs.declared.events.Event.the-variants.{SetupRequest, SetupResponse, ReleaseRequest, TxRequest, ModifyRequest, DCallProceeding, DAlert, DConnect, DConnectAcknowledge, DSetup, DInfo, DTxGranted, DTxCeased, DTxInterrupt, DTxWait, DTxContinue, DCallRestore, DDisconnect, DRelease, ReportSent, ReportFailed, Break, Resume, Expiry}
+use Rattle.records.specs.declared.events.Event.the-variants.{SetupRequest, SetupResponse, ReleaseRequest, TxRequest, DCallProceeding, DAlert, DConnect, DConnectAcknowledge, DSetup, DInfo, DTxGranted, DTxCeased, DTxInterrupt, DTxWait, DTxContinue, DCallRestore, DDisconnect, DRelease, ReportSent, ReportFailed, Break, Resume, Expiry}
 use Rattle.records.specs.declared.events.EventRead.{EventRead}
 use Rattle.records.specs.Tables.{Read, taken, refused, read}
 use Rattle.records.specs.Events.{events}
@@ -42,7 +42,6 @@ namedIn (SetupRequest a d q s) = Named.NoCall
 namedIn SetupResponse = Named.NoCall
 namedIn ReleaseRequest = Named.NoCall
 namedIn (TxRequest k) = Named.NoCall
-namedIn (ModifyRequest d) = Named.NoCall
 namedIn (DCallProceeding i) = Named.Id i
 namedIn (DAlert i) = Named.Id i
 namedIn (DConnect i g d o s) = Named.Id i
@@ -81,7 +80,6 @@ overTransmission c (SetupRequest a d q s) = false
 overTransmission c SetupResponse = false
 overTransmission c ReleaseRequest = false
 overTransmission c (TxRequest k) = false
-overTransmission c (ModifyRequest d) = false
 overTransmission c (DCallProceeding i) = false
 overTransmission c (DAlert i) = false
 overTransmission c (DConnect i g d o s) = false
@@ -131,6 +129,7 @@ answerNumber Answer.Taken = 0
 answerNumber Answer.NotSound = 1
 answerNumber Answer.BadLength = 2
 answerNumber Answer.UnknownKind = 3
+answerNumber Answer.Retired = 9
 answerNumber Answer.BadBody = 4
 answerNumber Answer.OtherCall = 5
 answerNumber Answer.NoRow = 6
@@ -149,6 +148,7 @@ abbrev pub unreadAs : EventRead → Answer
 unreadAs (EventRead.Is e) = Answer.Taken
 unreadAs EventRead.BadLength = Answer.BadLength
 unreadAs EventRead.UnknownKind = Answer.UnknownKind
+unreadAs EventRead.Retired = Answer.Retired
 unreadAs (EventRead.BadBody place) = Answer.BadBody
 
 -- and the place that comes with it
@@ -156,4 +156,5 @@ abbrev pub placeIn : EventRead → ℕ
 placeIn (EventRead.Is e) = 0
 placeIn EventRead.BadLength = 0
 placeIn EventRead.UnknownKind = 0
+placeIn EventRead.Retired = 0
 placeIn (EventRead.BadBody place) = place

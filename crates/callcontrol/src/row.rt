@@ -72,13 +72,11 @@ pub const U_DISCONNECT: u64 = 0x30000;
 
 pub const U_RELEASE: u64 = 0x40000;
 
-pub const U_INFO: u64 = 0x50000;
+pub const U_TX_DEMAND: u64 = 0x50000;
 
-pub const U_TX_DEMAND: u64 = 0x60000;
+pub const U_TX_CEASED: u64 = 0x60000;
 
-pub const U_TX_CEASED: u64 = 0x70000;
-
-pub const U_CALL_RESTORE: u64 = 0x80000;
+pub const U_CALL_RESTORE: u64 = 0x70000;
 
 // The user primitive.
 pub const SETUP_INDICATION: u64 = 0x100000;

@@ -62,7 +62,6 @@ use crate::row::STOP_306;
 use crate::row::TX_INDICATION;
 use crate::row::U_CALL_RESTORE;
 use crate::row::U_CONNECT;
-use crate::row::U_INFO;
 use crate::row::U_RELEASE;
 use crate::row::U_SETUP;
 use crate::row::U_TX_CEASED;
@@ -438,7 +437,6 @@ fn active_up(call: Call, event: Event) -> Row
             ceases(call)
         }
         // 14.5.1.2.3
-        Event::ModifyRequest { mode } => Row::of(call, STAY + U_INFO, mode),
         Event::DInfo {
             id: _,
             reset,

@@ -327,10 +327,9 @@ fn pdu_by(row: Row) -> Slot
         2 => Slot::Holds(Message::UConnect { id }),
         3 => Slot::Holds(Message::UDisconnect { id, cause: value }),
         4 => Slot::Holds(Message::URelease { id }),
-        5 => Slot::Holds(Message::UInfo { id, mode: value }),
-        6 => Slot::Holds(Message::UTxDemand { id }),
-        7 => Slot::Holds(Message::UTxCeased { id }),
-        8 => Slot::Holds(Message::UCallRestore { id, address, ask }),
+        5 => Slot::Holds(Message::UTxDemand { id }),
+        6 => Slot::Holds(Message::UTxCeased { id }),
+        7 => Slot::Holds(Message::UCallRestore { id, address, ask }),
         _ => Slot::Empty,
     }
 }

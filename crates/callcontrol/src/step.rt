@@ -23,6 +23,8 @@ pub enum Answer {
     BadLength,
     // 3: the kind is no event kind.
     UnknownKind,
+    // 9, after 3 and before 4: the kind is retired.
+    Retired,
     // 4: body size or a field out of range.
     BadBody,
     // 5: a network event of another call.
@@ -45,6 +47,7 @@ pub fn answer_number(answer: Answer) -> u8
         Answer::NotSound => 1,
         Answer::BadLength => 2,
         Answer::UnknownKind => 3,
+        Answer::Retired => 9,
         Answer::BadBody => 4,
         Answer::OtherCall => 5,
         Answer::NoRow => 6,
@@ -163,6 +166,7 @@ pub fn unread(read: EventRead) -> Answer
         EventRead::Is(_) => Answer::Taken,
         EventRead::BadLength => Answer::BadLength,
         EventRead::UnknownKind => Answer::UnknownKind,
+        EventRead::Retired => Answer::Retired,
         EventRead::BadBody(_) => Answer::BadBody,
     }
 }
@@ -175,6 +179,7 @@ pub fn place_in(read: EventRead) -> u8
         EventRead::Is(_) => 0,
         EventRead::BadLength => 0,
         EventRead::UnknownKind => 0,
+        EventRead::Retired => 0,
         EventRead::BadBody(place) => place,
     }
 }

@@ -15,7 +15,7 @@ use Rattle.callcontrol.specs.Step.{Outcome, decided}
 use Rattle.callcontrol.specs.Call.{freshCall}
 use Rattle.demands.specs.Runs.{outcome, run}
 use Rattle.demands.proofs.Demands as step-demands
-use Rattle.demands.proofs.Reading.{Reads, bad-length, no-kind, bad-body, is, reads}
+use Rattle.demands.proofs.Reading.{Reads, bad-length, no-kind, retired, bad-body, is, reads}
 use Rattle.console.specs.declared.route.Aim.{Aim}
 use Rattle.console.specs.declared.route.Route.{Route}
 use Rattle.console.specs.Table.{callAt, tableSound}
@@ -94,8 +94,9 @@ every-most ts =
 reader-not-seven : {s : List ℕ} {n p : ℕ} {r : Read Event} → Reads s r → r ≡ refused n p → n ≡ 7 → ⊥
 reader-not-seven (bad-length l) h seven = let z : _≡_ {A = ℕ} 2 7 = cc in omega arith
 reader-not-seven (no-kind l k) h seven = let z : _≡_ {A = ℕ} 3 7 = cc in omega arith
-reader-not-seven (bad-body l k b) h seven = let z : _≡_ {A = ℕ} 4 7 = cc in omega arith
-reader-not-seven (is l k b f) h seven = absurd (let z : _≡_ {A = ℕ} 0 1 = cc in omega arith)
+reader-not-seven (retired l k r) h seven = let z : _≡_ {A = ℕ} 9 7 = cc in omega arith
+reader-not-seven (bad-body l k r b) h seven = let z : _≡_ {A = ℕ} 4 7 = cc in omega arith
+reader-not-seven (is l k r b f) h seven = absurd (let z : _≡_ {A = ℕ} 0 1 = cc in omega arith)
 
 pub enough : claims.Enough
 enough ts t lent seven = by (came (claims.after ts) t)

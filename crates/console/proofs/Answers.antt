@@ -16,9 +16,9 @@ use Rattle.callcontrol.specs.Call.{isIdle}
 use Rattle.callcontrol.specs.Rows.{rowFor}
 use Rattle.callcontrol.specs.Writing.{bytesOf}
 use Rattle.callcontrol.specs.Step.{Outcome, namedIn, differs, otherCall, overTransmission, carried, decided}
-use Rattle.demands.specs.Demands.{wrongLength, noKind, badBody, first}
+use Rattle.demands.specs.Demands.{wrongLength, noKind, retiredKind, badBody, first}
 use Rattle.demands.proofs.Facts.{apart, left, right, is-not}
-use Rattle.demands.proofs.Reading.{Reads, bad-length, no-kind, bad-body, is, reads}
+use Rattle.demands.proofs.Reading.{Reads, bad-length, no-kind, retired, bad-body, is, reads}
 use Rattle.demands.proofs.Turns.{byTests}
 use Rattle.console.specs.declared.route.Aim.{Aim}
 use Rattle.console.specs.declared.route.ConsoleAnswer.{ConsoleAnswer}
@@ -137,7 +137,6 @@ call-named (Event.SetupRequest a d q s) = refl
 call-named Event.SetupResponse = refl
 call-named Event.ReleaseRequest = refl
 call-named (Event.TxRequest k) = refl
-call-named (Event.ModifyRequest d) = refl
 call-named (Event.DCallProceeding i) = refl
 call-named (Event.DAlert i) = refl
 call-named (Event.DConnect i g d o s) = refl
@@ -225,26 +224,28 @@ module _ (calls : List Call) (eight : length calls ≡ 8) (e : Event) (b : List 
 
 -- ---- bytes that are no event
 
-read-first : (s : List ℕ) (n p other : ℕ) {r : Read Event} → Reads s r → r ≡ refused n p → n ≡ cond (wrongLength s) 2 (cond (noKind s) 3 (cond (badBody s) 4 other))
+read-first : (s : List ℕ) (n p other : ℕ) {r : Read Event} → Reads s r → r ≡ refused n p → n ≡ cond (wrongLength s) 2 (cond (noKind s) 3 (cond (retiredKind s) 9 (cond (badBody s) 4 other)))
 read-first s n p other (bad-length l) h = rw l (let z : 2 ≡ n = cc in sym z)
 read-first s n p other (no-kind l k) h = rw (l, k) (let z : 3 ≡ n = cc in sym z)
-read-first s n p other (bad-body l k d) h = rw (l, k, d) (let z : 4 ≡ n = cc in sym z)
-read-first s n p other (is l k d f) h = absurd (let z : _≡_ {A = ℕ} 0 1 = cc in omega arith)
+read-first s n p other (retired l k r) h = rw (l, k, r) (let z : 9 ≡ n = cc in sym z)
+read-first s n p other (bad-body l k r d) h = rw (l, k, r, d) (let z : 4 ≡ n = cc in sym z)
+read-first s n p other (is l k r d f) h = absurd (let z : _≡_ {A = ℕ} 0 1 = cc in omega arith)
 
-read-passes : (s : List ℕ) (e : Event) {r : Read Event} → Reads s r → r ≡ taken e → (wrongLength s ≡ false) × (noKind s ≡ false) × (badBody s ≡ false)
+read-passes : (s : List ℕ) (e : Event) {r : Read Event} → Reads s r → r ≡ taken e → (wrongLength s ≡ false) × (noKind s ≡ false) × (retiredKind s ≡ false) × (badBody s ≡ false)
 read-passes s e (bad-length l) h = absurd (let z : _≡_ {A = ℕ} 0 1 = cc in omega arith)
 read-passes s e (no-kind l k) h = absurd (let z : _≡_ {A = ℕ} 0 1 = cc in omega arith)
-read-passes s e (bad-body l k d) h = absurd (let z : _≡_ {A = ℕ} 0 1 = cc in omega arith)
-read-passes s e (is l k d f) h = (l, k, d)
+read-passes s e (retired l k r) h = absurd (let z : _≡_ {A = ℕ} 0 1 = cc in omega arith)
+read-passes s e (bad-body l k r d) h = absurd (let z : _≡_ {A = ℕ} 0 1 = cc in omega arith)
+read-passes s e (is l k r d f) h = (l, k, r, d)
 
 pub answered : Answered
 unfolding consoleApplies routeOf
 answered calls t = by (came calls t)
   where
-    by : Came calls t → consoleOutcome calls t .answer ≡ first (λ n. consoleApplies n calls t) (1 ∷ 2 ∷ 3 ∷ 4 ∷ 40 ∷ 41 ∷ 42 ∷ 43 ∷ 5 ∷ 6 ∷ 8 ∷ 7 ∷ [])
+    by : Came calls t → consoleOutcome calls t .answer ≡ first (λ n. consoleApplies n calls t) (1 ∷ 2 ∷ 3 ∷ 9 ∷ 4 ∷ 40 ∷ 41 ∷ 42 ∷ 43 ∷ 5 ∷ 6 ∷ 8 ∷ 7 ∷ [])
     by (unsound s o) = rw s (ap (λ (o : ConsoleOutcome). o .answer) o)
     by (unread n p s h o) = rw s (ap (λ (o : ConsoleOutcome). o .answer) o ∙ read-first (t .event) n p _ (reads (t .event)) h)
     by (routes e r s h to o) =
         let passes = read-passes (t .event) e (reads (t .event)) h in
-        rw (s, passes .0, passes .1, passes .2, h)
+        rw (s, passes .0, passes .1, passes .2, passes .3, h)
         (ap (λ (o : ConsoleOutcome). o .answer) (routed-is calls t s h refl) ∙ by-aim calls (eight-of calls s) e (t .buffer) (aimOf e) (t .place) (call-named e))

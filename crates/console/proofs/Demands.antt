@@ -12,7 +12,7 @@ use lib.ListN.{length, drop, set}
 use lib.Seq.{getD-set-other, set-getD}
 use Rattle.records.specs.declared.events.Event.{Event}
 use Rattle.records.specs.Bodies.{Found, kindIn, bodyOf}
-use Rattle.records.specs.Tables.{Table, Read, taken, refused, orRefuse, orPlace, sized, known, find, read, readAmong, readAs, readBody}
+use Rattle.records.specs.Tables.{Table, Read, taken, refused, orRefuse, orPlace, sized, listed, known, find, read, readAmong, readAs, readBody}
 use Rattle.records.specs.Events.{events}
 use Rattle.callcontrol.specs.declared.call.Call.{Call}
 use Rattle.callcontrol.specs.Call.{freshCall, isIdle, sound}
@@ -236,13 +236,17 @@ known-numbered : {B : Type 0} (b : Bool) (r : Read B) → Numbered r → Numbere
 known-numbered true r h = h
 known-numbered false r h = (lit≤ tt, λ x. refl)
 
+current-numbered : {B : Type 0} (b : Bool) (r : Read B) → Numbered r → Numbered (cond b (refused 9 0) r)
+current-numbered true r h = (lit≤ tt, λ x. refl)
+current-numbered false r h = h
+
 numbered : (t : Table) (s : List ℕ) → Numbered (read t s)
 unfolding read readAs readAmong readBody
 numbered t s =
     or-numbered 2 (lit≤ tt) (kindIn s) _
-    (λ n. known-numbered (known t n (t .kinds)) _
+    (λ n. current-numbered (listed n (t .retired)) _ (known-numbered (known t n (t .kinds)) _
     (place-numbered (sized (find t n (length s) (t .kinds))) _
-    (λ k. place-numbered (bodyOf (t .rowOf k .letters) s) _ (λ vs. cond-numbered (t .agrees (t .valueOf k vs)) (t .valueOf k vs) (t .clash)))))
+    (λ k. place-numbered (bodyOf (t .rowOf k .letters) s) _ (λ vs. cond-numbered (t .agrees (t .valueOf k vs)) (t .valueOf k vs) (t .clash))))))
 
 reader-number : (n p : ℕ) (s : List ℕ) → read events s ≡ refused n p → (2 ≤ n) × ((n ≡ 4 → ⊥) → p ≡ 0)
 reader-number n p s h = rw h at (numbered events s)

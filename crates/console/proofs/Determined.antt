@@ -30,6 +30,7 @@ below-40 Answer.Taken = lit< tt
 below-40 Answer.NotSound = lit< tt
 below-40 Answer.BadLength = lit< tt
 below-40 Answer.UnknownKind = lit< tt
+below-40 Answer.Retired = lit< tt
 below-40 Answer.BadBody = lit< tt
 below-40 Answer.OtherCall = lit< tt
 below-40 Answer.NoRow = lit< tt

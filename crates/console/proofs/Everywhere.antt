@@ -131,7 +131,6 @@ every-is P b r (Event.SetupRequest a d q s) h = let x : _≡_ {A = ℕ} 0 1 = cc
 every-is P b r Event.SetupResponse h = let x : _≡_ {A = ℕ} 0 1 = cc h in absurd (omega arith)
 every-is P b r Event.ReleaseRequest h = let x : _≡_ {A = ℕ} 0 1 = cc h in absurd (omega arith)
 every-is P b r (Event.TxRequest k) h = let x : _≡_ {A = ℕ} 0 1 = cc h in absurd (omega arith)
-every-is P b r (Event.ModifyRequest d) h = let x : _≡_ {A = ℕ} 0 1 = cc h in absurd (omega arith)
 every-is P b r (Event.DCallProceeding i) h = let x : _≡_ {A = ℕ} 0 1 = cc h in absurd (omega arith)
 every-is P b r (Event.DAlert i) h = let x : _≡_ {A = ℕ} 0 1 = cc h in absurd (omega arith)
 every-is P b r (Event.DConnect i g d o s) h = let x : _≡_ {A = ℕ} 0 1 = cc h in absurd (omega arith)

@@ -130,7 +130,6 @@ plain-row {c} (Row.completes i g o z) =
 plain-row (Row.asks-to-send k z y) = record { pdu = refl; user = tt }
 plain-row (Row.stops-sending k z y) = record { pdu = refl; user = tt }
 plain-row (Row.asks-no-more k z y x) = record { pdu = refl; user = tt }
-plain-row (Row.modifies d) = record { pdu = refl; user = tt }
 plain-row {c} (Row.same-mode i r o d s z) = record { pdu = restart-pdu (draft c) tt r o; user = refl }
 plain-row {c} (Row.new-mode i r o d s z) = record { pdu = restart-pdu (draft c) tt r o; user = refl }
 plain-row {c} (Row.granted i g) = record { pdu = grant-pdu (draft c) tt g; user = refl }

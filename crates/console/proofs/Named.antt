@@ -83,7 +83,6 @@ row-names {c} (Row.completes i g o r) is = kept (live c called is) (id-grantOrOf
 row-names {c} (Row.asks-to-send k o z) is = kept (live c talking is) refl
 row-names {c} (Row.stops-sending k o z) is = kept (live c talking is) refl
 row-names {c} (Row.asks-no-more k o z y) is = kept (live c talking is) refl
-row-names {c} (Row.modifies d) is = kept (live c talking is) refl
 row-names {c} (Row.same-mode i r o d s z) is = kept (live c talking is) (id-restart r o _)
 row-names {c} (Row.new-mode i r o d s z) is = kept (live c talking is) (id-restart r o _)
 row-names {c} (Row.granted i g) is = kept (live c talking is) (id-grant g _)

@@ -13,7 +13,7 @@ use Rattle.callcontrol.specs.declared.call.Call.{Call}
 use Rattle.callcontrol.specs.Call.{isIdle}
 use Rattle.callcontrol.specs.Writing.{bytesOf}
 use Rattle.callcontrol.specs.Step.{overTransmission}
-use Rattle.demands.specs.Demands.{wrongLength, noKind, badBody, ofEvent, first}
+use Rattle.demands.specs.Demands.{wrongLength, noKind, retiredKind, badBody, ofEvent, first}
 use Rattle.console.specs.declared.route.Aim.{Aim}
 use Rattle.console.specs.declared.route.Route.{Route}
 use Rattle.console.specs.Table.{callAt, holds, some?, tableSound}
@@ -92,10 +92,11 @@ consoleApplies n calls t =
     (cond (eqb n 5) (ofEvent (λ e. noneFits (aimOf e) calls) (read events (t .event)))
     (cond (eqb n 6) (ofEvent (λ e. noRowThere (routeOf calls (t .place) e) calls e) (read events (t .event)))
     (cond (eqb n 7) (ofEvent (λ e. tooLong (routeOf calls (t .place) e) calls e (t .buffer)) (read events (t .event)))
-    (cond (eqb n 8) (ofEvent (λ e. transmitsThere (routeOf calls (t .place) e) calls e) (read events (t .event))) false)))))))))))
+    (cond (eqb n 8) (ofEvent (λ e. transmitsThere (routeOf calls (t .place) e) calls e) (read events (t .event)))
+    (cond (eqb n 9) (retiredKind (t .event)) false))))))))))))
 
 -- every table, every place, every byte string and every buffer gets the first number that applies, and 0 where none does
 abbrev pub Answered : Type 0
 Answered =
     (calls : List Call) (t : ConsoleTurn) →
-    consoleOutcome calls t .answer ≡ first (λ n. consoleApplies n calls t) (1 ∷ 2 ∷ 3 ∷ 4 ∷ 40 ∷ 41 ∷ 42 ∷ 43 ∷ 5 ∷ 6 ∷ 8 ∷ 7 ∷ [])
+    consoleOutcome calls t .answer ≡ first (λ n. consoleApplies n calls t) (1 ∷ 2 ∷ 3 ∷ 9 ∷ 4 ∷ 40 ∷ 41 ∷ 42 ∷ 43 ∷ 5 ∷ 6 ∷ 8 ∷ 7 ∷ [])

@@ -4,7 +4,7 @@ use mathlib.Core.Bool.{cond}
 use mathlib.Core.List.{List}
 use lib.Dec.{ltb}
 use Rattle.records.specs.declared.events.Event.{Event}
-use Rattle.records.specs.declared.events.Event.the-variants.{SetupRequest, SetupResponse, ReleaseRequest, TxRequest, ModifyRequest, DCallProceeding, DAlert, DConnect, DConnectAcknowledge, DSetup, DInfo, DTxGranted, DTxCeased, DTxInterrupt, DTxWait, DTxContinue, DCallRestore, DDisconnect, DRelease, ReportSent, ReportFailed, Break, Resume, Expiry}
+use Rattle.records.specs.declared.events.Event.the-variants.{SetupRequest, SetupResponse, ReleaseRequest, TxRequest, DCallProceeding, DAlert, DConnect, DConnectAcknowledge, DSetup, DInfo, DTxGranted, DTxCeased, DTxInterrupt, DTxWait, DTxContinue, DCallRestore, DDisconnect, DRelease, ReportSent, ReportFailed, Break, Resume, Expiry}
 use Rattle.callcontrol.specs.declared.call.Call.{Call}
 use Rattle.callcontrol.specs.declared.step.Answer.{Answer}
 use Rattle.callcontrol.specs.Call.{isIdle}
@@ -29,7 +29,6 @@ aimOf (SetupRequest a d q s) = Aim.Outgoing
 aimOf SetupResponse = Aim.Place
 aimOf ReleaseRequest = Aim.Place
 aimOf (TxRequest k) = Aim.Place
-aimOf (ModifyRequest d) = Aim.Place
 aimOf (DCallProceeding i) = Aim.Held i
 aimOf (DAlert i) = Aim.Held i
 aimOf (DConnect i g d o s) = Aim.Held i

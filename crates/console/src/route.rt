@@ -69,7 +69,6 @@ pub fn aim_of(event: Event) -> Aim
         Event::SetupResponse => Aim::Place,
         Event::ReleaseRequest => Aim::Place,
         Event::TxRequest { go: _ } => Aim::Place,
-        Event::ModifyRequest { mode: _ } => Aim::Place,
         Event::DCallProceeding { id } => Aim::Held(id),
         Event::DAlert { id } => Aim::Held(id),
         Event::DConnect {

@@ -18,8 +18,8 @@ use Rattle.callcontrol.specs.Rows.{rowFor}
 use Rattle.callcontrol.specs.Writing.{messagesIn, bytesOf}
 use Rattle.callcontrol.specs.Step.{Outcome, refusalAt, refusal, otherCall, overTransmission, carried, decided, whenRead, stepOf}
 use Rattle.demands.specs.Runs.{Turn, outcome, takenBy, writtenBy}
-use Rattle.demands.specs.Demands.{wrongLength, noKind, badBody, ofEvent, applies, Answered, Refused, Placed, PlaceOnlyWithFour, Zero, Taken}
-use Rattle.demands.proofs.Reading.{Reads, bad-length, no-kind, bad-body, is, reads}
+use Rattle.demands.specs.Demands.{wrongLength, noKind, retiredKind, badBody, ofEvent, applies, Answered, Refused, Placed, PlaceOnlyWithFour, Zero, Taken}
+use Rattle.demands.proofs.Reading.{Reads, bad-length, no-kind, retired, bad-body, is, reads}
 use Rattle.demands.proofs.Turns.{byTests, Accepted, Turned, passed, took, turned, accepts}
 
 -- ---- the lowest answer
@@ -37,18 +37,20 @@ module _ (c : Call) (buffer : List ℕ) where
       ≡ cond (not ok) 1
       (cond (wrongLength s) 2
       (cond (noKind s) 3
+      (cond (retiredKind s) 9
       (cond (badBody s) 4
       (cond (ofEvent (λ e. otherCall c e) r) 5
       (cond (ofEvent (λ e. not (rowFor c e .taken)) r) 6
       (cond (ofEvent (λ e. overTransmission c e) r) 8
-      (cond (ofEvent (λ e. not (leb (length (bytesOf (messagesIn (rowFor c e)))) (length buffer))) r) 7 0)))))))
+      (cond (ofEvent (λ e. not (leb (length (bytesOf (messagesIn (rowFor c e)))) (length buffer))) r) 7 0))))))))
   unfolding decided carried
   step-answered false s r v = refl
   step-answered true s r (bad-length l) = rw l
   step-answered true s r (no-kind l k) = rw (l, k)
-  step-answered true s r (bad-body l k b) = rw (l, k, b)
-  step-answered true s r (is {e} l k b f) =
-      rw (l, k, b) (event-answered (otherCall c e) (rowFor c e .taken) (overTransmission c e) (leb (length (bytesOf (messagesIn (rowFor c e)))) (length buffer)) (rowFor c e))
+  step-answered true s r (retired l k n) = rw (l, k, n)
+  step-answered true s r (bad-body l k n b) = rw (l, k, n, b)
+  step-answered true s r (is {e} l k n b f) =
+      rw (l, k, n, b) (event-answered (otherCall c e) (rowFor c e .taken) (overTransmission c e) (leb (length (bytesOf (messagesIn (rowFor c e)))) (length buffer)) (rowFor c e))
 
 pub answered : Answered
 unfolding stepOf applies

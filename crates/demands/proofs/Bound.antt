@@ -30,7 +30,7 @@ use Rattle.demands.specs.Demands.{Kept, AtMost32, Enough32, AtMost52}
 use Rattle.demands.proofs.Facts.{apart, left, right}
 use Rattle.demands.proofs.ByRow.{Ender, t301, t302, t303, t306, t310, Row, is-row}
 use Rattle.demands.proofs.Cases.{onPlane, by-plane, by-restart, by-grant, by-grantOrOff, limitedAs, by-start310}
-use Rattle.demands.proofs.Reading.{Reads, bad-length, no-kind, bad-body, is, reads}
+use Rattle.demands.proofs.Reading.{Reads, bad-length, no-kind, retired, bad-body, is, reads}
 use Rattle.demands.proofs.Situations.{call, At, idle, mo, mt, up, broken, restoring, wait, disconnect, situated}
 use Rattle.demands.proofs.Sound.{always}
 use Rattle.demands.proofs.Timers as Timers
@@ -150,7 +150,6 @@ module _ (n : ℕ) (enough : 27 ≤ n) where
   within ends (Row.asks-to-send k z y) v h = more _ refl
   within ends (Row.stops-sending k z y) (up {t₁₁} l p m) h = more _ (elim t₁₁ [ true ↦ refl | false ↦ refl ])
   within ends (Row.asks-no-more k z y x) v h = more _ refl
-  within ends (Row.modifies d) v h = more _ refl
   within ends (Row.same-mode i r o d s z) (up {t₁₀ = true} l p m) h = more _ (by-restart (λ x. Within 27 (tellModified d (samePlane (storeSlots s x)))) r o _ refl refl refl)
   within ends (Row.same-mode i r o d s z) (up {t₁₀ = false} l p m) h = more _ (by-restart (λ x. Within 27 (tellModified d (samePlane (storeSlots s x)))) r o _ refl refl refl)
   within ends (Row.new-mode i r o d s z) (up {t₁₀ = true} {t₁₁ = true} l p m) h = more _ (by-restart (λ x. Within 27 (tellModified d (off (storeSlots s (storeMode d x))))) r o _ refl refl refl)
@@ -256,8 +255,9 @@ read-enough : (c : Call) (s b : List ℕ) → Kept c → Clocked c → 32 ≤ le
 unfolding decided carried
 read-enough c s b k v lent (bad-length l) seven = omega arith
 read-enough c s b k v lent (no-kind l n) seven = omega arith
-read-enough c s b k v lent (bad-body l n d) seven = omega arith
-read-enough c s b k v lent (is {e} l n d f) seven =
+read-enough c s b k v lent (retired l n r) seven = omega arith
+read-enough c s b k v lent (bad-body l n r d) seven = omega arith
+read-enough c s b k v lent (is {e} l n r d f) seven =
     room-for-row (otherCall c e) (rowFor c e .taken) (overTransmission c e) (leb (length (bytesOf (messagesIn (rowFor c e)))) (length b)) c (rowFor c e) b
     (λ h. le-leb (length (bytesOf (messagesIn (rowFor c e)))) (length b) (omega (arith, row-short c e k v h))) seven
 

@@ -53,23 +53,24 @@ pub run-sound : claims.Sound
 run-sound ts = Sound.always ts .meets
 
 -- a number found among 2 to 8, or none, is not 1
-not-one : (b₂ b₃ b₄ b₅ b₆ b₈ b₇ : Bool) → _≡_ {A = ℕ} (cond b₂ 2 (cond b₃ 3 (cond b₄ 4 (cond b₅ 5 (cond b₆ 6 (cond b₈ 8 (cond b₇ 7 0))))))) 1 → ⊥
-not-one true b₃ b₄ b₅ b₆ b₈ b₇ e = omega arith
-not-one false true b₄ b₅ b₆ b₈ b₇ e = omega arith
-not-one false false true b₅ b₆ b₈ b₇ e = omega arith
-not-one false false false true b₆ b₈ b₇ e = omega arith
-not-one false false false false true b₈ b₇ e = omega arith
-not-one false false false false false true b₇ e = omega arith
-not-one false false false false false false true e = omega arith
-not-one false false false false false false false e = omega arith
+not-one : (b₂ b₃ b₉ b₄ b₅ b₆ b₈ b₇ : Bool) → _≡_ {A = ℕ} (cond b₂ 2 (cond b₃ 3 (cond b₉ 9 (cond b₄ 4 (cond b₅ 5 (cond b₆ 6 (cond b₈ 8 (cond b₇ 7 0)))))))) 1 → ⊥
+not-one true b₃ b₉ b₄ b₅ b₆ b₈ b₇ e = omega arith
+not-one false true b₉ b₄ b₅ b₆ b₈ b₇ e = omega arith
+not-one false false true b₄ b₅ b₆ b₈ b₇ e = omega arith
+not-one false false false true b₅ b₆ b₈ b₇ e = omega arith
+not-one false false false false true b₆ b₈ b₇ e = omega arith
+not-one false false false false false true b₈ b₇ e = omega arith
+not-one false false false false false false true b₇ e = omega arith
+not-one false false false false false false false true e = omega arith
+not-one false false false false false false false false e = omega arith
 
 sound-answer : (c : Call) (bytes buffer : List ℕ) → sound c ≡ true → stepOf c bytes buffer .answer ≡ 1 → ⊥
 unfolding applies
 sound-answer c bytes buffer s e =
     let p : ℕ → Bool = λ n. applies n c bytes buffer in
     let unsound : applies 1 c bytes buffer ≡ false = rw s in
-    not-one (p 2) (p 3) (p 4) (p 5) (p 6) (p 8) (p 7)
-    (sym (answered c bytes buffer ∙ ap (λ (b : Bool). cond b 1 (cond (p 2) 2 (cond (p 3) 3 (cond (p 4) 4 (cond (p 5) 5 (cond (p 6) 6 (cond (p 8) 8 (cond (p 7) 7 0)))))))) unsound) ∙ e)
+    not-one (p 2) (p 3) (p 9) (p 4) (p 5) (p 6) (p 8) (p 7)
+    (sym (answered c bytes buffer ∙ ap (λ (b : Bool). cond b 1 (cond (p 2) 2 (cond (p 3) 3 (cond (p 9) 9 (cond (p 4) 4 (cond (p 5) 5 (cond (p 6) 6 (cond (p 8) 8 (cond (p 7) 7 0))))))))) unsound) ∙ e)
 
 pub never-unsound : claims.NeverUnsound
 unfolding outcome
@@ -85,6 +86,9 @@ taken-gives = Answers.taken-gives
 
 pub step-in-range : claims.StepInRange
 step-in-range = WrittenInRange.step-in-range
+
+pub no-u-info : claims.NoUInfo
+no-u-info = WrittenInRange.no-u-info
 
 pub written-in-range : claims.WrittenInRange
 written-in-range = WrittenInRange.written-in-range

@@ -75,7 +75,6 @@ row-named h (Row.completes i g o r) v k z = grant-or-off-id _ g ∙ k refl
 row-named h (Row.asks-to-send j r y) v k z = k refl
 row-named h (Row.stops-sending j r y) v k z = k refl
 row-named h (Row.asks-no-more j r y x) v k z = k refl
-row-named h (Row.modifies d) v k z = k refl
 row-named h (Row.same-mode i r o d s y) v k z = restart-id _ r o ∙ k refl
 row-named h (Row.new-mode i r o d s y) v k z = restart-id _ r o ∙ k refl
 row-named h (Row.granted i g) v k z = grant-id _ g ∙ k refl

@@ -130,7 +130,6 @@ sends {c} (Row.completes i g o r) v =
 sends {c} (Row.asks-to-send k r y) v = neither refl refl (λ z. due-most (c .state))
 sends {c} (Row.stops-sending k r y) v = neither refl refl (λ z. due-most (c .state))
 sends {c} (Row.asks-no-more k r y x) v = neither refl refl (λ z. due-most (c .state))
-sends {c} (Row.modifies d) v = neither refl refl (λ z. due-most (c .state))
 sends {c} (Row.same-mode i r o d s y) v =
     let x : Draft = samePlane (storeSlots s (restart r o (draft c))) in
     tells-only x (silent-restart (draft c) refl r o) (ModifyIndication d (x .call .slots)) refl refl refl

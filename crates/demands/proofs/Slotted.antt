@@ -6,7 +6,7 @@ use mathlib.Core.Bool.{Bool, true, false, cond, _&&_}
 use mathlib.Core.List.{List, [], _∷_, _++_}
 use lib.Dec.{eqb}
 use Rattle.records.specs.declared.events.Event.{Event}
-use Rattle.records.specs.declared.events.Event.the-variants.{SetupRequest, SetupResponse, ReleaseRequest, TxRequest, ModifyRequest, DCallProceeding, DAlert, DConnect, DConnectAcknowledge, DSetup, DInfo, DTxGranted, DTxCeased, DTxInterrupt, DTxWait, DTxContinue, DCallRestore, DDisconnect, DRelease, ReportSent, ReportFailed, Break, Resume, Expiry}
+use Rattle.records.specs.declared.events.Event.the-variants.{SetupRequest, SetupResponse, ReleaseRequest, TxRequest, DCallProceeding, DAlert, DConnect, DConnectAcknowledge, DSetup, DInfo, DTxGranted, DTxCeased, DTxInterrupt, DTxWait, DTxContinue, DCallRestore, DDisconnect, DRelease, ReportSent, ReportFailed, Break, Resume, Expiry}
 use Rattle.callcontrol.specs.declared.call.State.{State}
 use Rattle.callcontrol.specs.declared.call.Path.{Path}
 use Rattle.callcontrol.specs.declared.call.Call.{Call}
@@ -74,7 +74,6 @@ row-slotted h (Row.completes i g o r) v k z = grant-or-off-slots _ g ∙ k refl
 row-slotted h (Row.asks-to-send j r y) v k z = k refl
 row-slotted h (Row.stops-sending j r y) v k z = k refl
 row-slotted h (Row.asks-no-more j r y x) v k z = k refl
-row-slotted h (Row.modifies d) v k z = k refl
 row-slotted {c} h (Row.same-mode i r o d s y) v k z = ap (orBefore s) (restart-slots (draft c) r o ∙ k refl)
 row-slotted {c} h (Row.new-mode i r o d s y) v k z = ap (orBefore s) (restart-slots (draft c) r o ∙ k refl)
 row-slotted h (Row.granted i g) v k z = grant-slots _ g ∙ k refl
@@ -132,7 +131,6 @@ note-one (SetupRequest a d q s) h = rw h
 note-one SetupResponse h = refl
 note-one ReleaseRequest h = refl
 note-one (TxRequest k) h = refl
-note-one (ModifyRequest d) h = refl
 note-one (DCallProceeding i) h = refl
 note-one (DAlert i) h = refl
 note-one (DConnect i g d o s) h = rw h

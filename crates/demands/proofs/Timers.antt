@@ -156,7 +156,6 @@ row-clocked (Row.completes i g o z) mt = clocked (grants-or-off g talks)
 row-clocked (Row.asks-to-send k z y) up = up
 row-clocked (Row.stops-sending k z y) up = up
 row-clocked (Row.asks-no-more k z y x) up = up
-row-clocked (Row.modifies d) up = up
 row-clocked (Row.same-mode i r o d s z) up = clocked (slots s (restarts r o talks))
 row-clocked (Row.new-mode i r o d s z) up = clocked (off-is (slots s (modes d (restarts r o talks))))
 row-clocked (Row.granted i g) up = clocked (grants g talks)

@@ -187,7 +187,6 @@ tracks {c} (Row.completes i g o z) (mt {t = false}) =
 tracks (Row.asks-to-send k z y) up = by refl
 tracks (Row.stops-sending k z y) (up {t}) = elim t [ true ↦ by refl | false ↦ by refl ]
 tracks (Row.asks-no-more k z y x) up = by refl
-tracks (Row.modifies d) up = by refl
 tracks {c} (Row.same-mode i r o d s z) up = same-mode c r o d s open-up
 tracks {c} (Row.new-mode i r o d s z) up = new-mode c r o d s open-up
 tracks {c} (Row.granted i g) (up {t = true}) = by-grant (λ x. Tracks (c .timers) (tell (TxIndication g) x)) g (draft c) (by refl) (by refl) (by refl) (by refl) (by refl)

@@ -1,13 +1,13 @@
 -- The calls of the witness go as its lines say, by computing.
 use mathlib.Core.Path.{refl}
-use Rattle.demands.specs.Demands.{wrongLength, noKind, bodyFits, badBody, applies, restores, quiet, oneCall}
+use Rattle.demands.specs.Demands.{wrongLength, noKind, retiredKind, bodyFits, badBody, applies, restores, quiet, oneCall}
 use Rattle.demands.specs.Runs.{isUDisconnect, isURelease}
 use Rattle.demands.specs.Clocks.{logIn, place, noteMessage, noteMessages, noteExpiry, noteLog, runningBy}
 use Rattle.demands.specs.Witness.{flags, numbers, same, agrees, goesSo, lowerGiven, numbersOf, Witness}
 use Rattle.demands.proofs.Computed.{computed}
 
 pub witness : Witness
-unfolding computed logIn place noteMessage noteMessages noteExpiry noteLog runningBy numbersOf isUDisconnect isURelease oneCall goesSo lowerGiven agrees same numbers flags restores quiet applies wrongLength noKind bodyFits badBody
+unfolding computed logIn place noteMessage noteMessages noteExpiry noteLog runningBy numbersOf isUDisconnect isURelease oneCall goesSo lowerGiven agrees same numbers flags restores quiet applies wrongLength noKind retiredKind bodyFits badBody
 witness =
     record {
       lines = refl;

@@ -8,11 +8,11 @@ use lib.Dec.{leb, eqb}
 use lib.ListN.{length, take, drop}
 use lib.Seq.{sets}
 use Rattle.records.specs.declared.events.Event.{Event}
-use Rattle.records.specs.declared.events.Event.the-variants.{SetupRequest, SetupResponse, ReleaseRequest, TxRequest, ModifyRequest, DCallProceeding, DAlert, DConnect, DConnectAcknowledge, DSetup, DInfo, DTxGranted, DTxCeased, DTxInterrupt, DTxWait, DTxContinue, DCallRestore, DDisconnect, DRelease, ReportSent, ReportFailed, Break, Resume, Expiry}
+use Rattle.records.specs.declared.events.Event.the-variants.{SetupRequest, SetupResponse, ReleaseRequest, TxRequest, DCallProceeding, DAlert, DConnect, DConnectAcknowledge, DSetup, DInfo, DTxGranted, DTxCeased, DTxInterrupt, DTxWait, DTxContinue, DCallRestore, DDisconnect, DRelease, ReportSent, ReportFailed, Break, Resume, Expiry}
 use Rattle.records.specs.declared.messages.Message.{Message}
 use Rattle.records.specs.Bytes.{number}
 use Rattle.records.specs.Bodies.{size, numbersAt, allFit}
-use Rattle.records.specs.Tables.{Read, taken, refused, known, find, read, fine}
+use Rattle.records.specs.Tables.{Read, taken, refused, listed, known, find, read, fine}
 use Rattle.records.specs.Laws.{missing, numbers}
 use Rattle.records.specs.Events.{EventKind, eventRow, events}
 use Rattle.records.specs.Messages.{messages}
@@ -23,7 +23,7 @@ use Rattle.callcontrol.specs.Call.{freshCall, sound, pathNumber, runs, isIdle, 
 use Rattle.callcontrol.specs.Rows.{rowFor}
 use Rattle.callcontrol.specs.Writing.{messagesIn, bytesOf}
 use Rattle.callcontrol.specs.Step.{refusal, refusalAt, stepOf, otherCall, overTransmission}
-use Rattle.demands.specs.Runs.{Turn, outcome, next, run, takenBy, takenIn, writtenBy, writtenIn, every?, isUDisconnect, isURelease, told, ends}
+use Rattle.demands.specs.Runs.{Turn, outcome, next, run, takenBy, takenIn, writtenBy, writtenIn, every?, isUDisconnect, isURelease, isUInfo, told, ends}
 use Rattle.demands.specs.Examples.{turn, setupRequest, dConnect}
 use Rattle.demands.specs.Clocks.{logIn, runningBy, runsBy}
 use Rattle.demands.specs.History.{planeByHistory, idByHistory, slotsByHistory, carryNone}
@@ -34,9 +34,13 @@ use Rattle.demands.specs.History.{planeByHistory, idByHistory, slotsByHi
 unfoldable pub wrongLength : List ℕ → Bool
 wrongLength bytes = not (leb 4 (length bytes) && eqb (number 2 bytes 0) (length bytes))
 
--- 3: the kind's number stands in no line of the table of events
+-- 3: the kind's number stands in no line of the table of events, nor among the retired ones
 unfoldable pub noKind : List ℕ → Bool
-noKind bytes = missing (number 2 bytes 2) (numbers events)
+noKind bytes = missing (number 2 bytes 2) (numbers events) && not (listed (number 2 bytes 2) (events .retired))
+
+-- 9: it stands among the retired ones
+unfoldable pub retiredKind : List ℕ → Bool
+retiredKind bytes = listed (number 2 bytes 2) (events .retired)
 
 -- 4: no line of the kind's number has the size of the body, or a field is out of its letter's range
 unfoldable pub bodyFits : EventKind → List ℕ → Bool
@@ -67,18 +71,20 @@ applies n c bytes buffer =
     (cond (eqb n 5) (ofEvent (λ e. otherCall c e) (read events bytes))
     (cond (eqb n 6) (ofEvent (λ e. not (rowFor c e .taken)) (read events bytes))
     (cond (eqb n 7) (ofEvent (λ e. not (leb (length (bytesOf (messagesIn (rowFor c e)))) (length buffer))) (read events bytes))
-    (cond (eqb n 8) (ofEvent (λ e. overTransmission c e) (read events bytes)) false)))))))
+    (cond (eqb n 8) (ofEvent (λ e. overTransmission c e) (read events bytes))
+    (cond (eqb n 9) (retiredKind bytes) false))))))))
 
 -- the first of some numbers that applies, 0 if none does
 abbrev pub first : (ℕ → Bool) → List ℕ → ℕ
 first p [] = 0
 first p (n ∷ ns) = cond (p n) n (first p ns)
 
--- every record, every byte string and every buffer gets the first number that applies, 8 after 6 and before 7, and 0 where none does
+-- every record, every byte string and every buffer gets the first number that applies, 9 after 3 and before 4, 8 after 6 and before 7, and 0
+-- where none does
 abbrev pub Answered : Type 0
 Answered =
     (c : Call) (bytes buffer : List ℕ) →
-    stepOf c bytes buffer .answer ≡ first (λ n. applies n c bytes buffer) (1 ∷ 2 ∷ 3 ∷ 4 ∷ 5 ∷ 6 ∷ 8 ∷ 7 ∷ [])
+    stepOf c bytes buffer .answer ≡ first (λ n. applies n c bytes buffer) (1 ∷ 2 ∷ 3 ∷ 9 ∷ 4 ∷ 5 ∷ 6 ∷ 8 ∷ 7 ∷ [])
 
 -- a refusal counts 0 bytes, changes no byte and gives the record back
 abbrev pub Refused : Type 0
@@ -147,6 +153,10 @@ StepInRange = (c : Call) (t : Turn) → Kept c → every? (λ m. fine messages m
 abbrev pub WrittenInRange : Type 0
 WrittenInRange = (ts : List Turn) → every? (λ m. fine messages m) (writtenIn freshCall ts) ≡ true
 
+-- no step from a sound record writes U-INFO
+abbrev pub NoUInfo : Type 0
+NoUInfo = (c : Call) (t : Turn) → Kept c → every? (λ m. not (isUInfo m)) (writtenBy c t) ≡ true
+
 -- some bytes are, record after record, some messages: as many bytes as the length at the front says are read as the first, the rest as
 -- the others
 abbrev pub Reads : List ℕ → List Message → Type 0
@@ -207,7 +217,6 @@ restoresIn i (some (SetupRequest a d q s)) = false
 restoresIn i (some SetupResponse) = false
 restoresIn i (some ReleaseRequest) = false
 restoresIn i (some (TxRequest k)) = false
-restoresIn i (some (ModifyRequest d)) = false
 restoresIn i (some (DCallProceeding j)) = false
 restoresIn i (some (DAlert j)) = false
 restoresIn i (some (DConnect j g d o s)) = false

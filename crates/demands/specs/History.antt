@@ -4,7 +4,7 @@ use mathlib.Core.Bool.{Bool, true, cond, _&&_}
 use mathlib.Core.List.{List, [], _∷_}
 use lib.Dec.{eqb}
 use Rattle.records.specs.declared.events.Event.{Event}
-use Rattle.records.specs.declared.events.Event.the-variants.{SetupRequest, SetupResponse, ReleaseRequest, TxRequest, ModifyRequest, DCallProceeding, DAlert, DConnect, DConnectAcknowledge, DSetup, DInfo, DTxGranted, DTxCeased, DTxInterrupt, DTxWait, DTxContinue, DCallRestore, DDisconnect, DRelease, ReportSent, ReportFailed, Break, Resume, Expiry}
+use Rattle.records.specs.declared.events.Event.the-variants.{SetupRequest, SetupResponse, ReleaseRequest, TxRequest, DCallProceeding, DAlert, DConnect, DConnectAcknowledge, DSetup, DInfo, DTxGranted, DTxCeased, DTxInterrupt, DTxWait, DTxContinue, DCallRestore, DDisconnect, DRelease, ReportSent, ReportFailed, Break, Resume, Expiry}
 
 -- what the rule remembers: the plane, the mode, and the plane before the last D-TX WAIT
 pub record History : Type 0 where
@@ -31,7 +31,6 @@ note h (SetupRequest a d q s) = history (h .plane) d (h .before)
 note h SetupResponse = h
 note h ReleaseRequest = switched h 4
 note h (TxRequest k) = switched h (cond (eqb k 0 && eqb (h .plane) 1) 4 (h .plane))
-note h (ModifyRequest d) = h
 note h (DCallProceeding i) = h
 note h (DAlert i) = h
 note h (DConnect i g d o s) = history (granted g d 4) d (h .before)
@@ -66,7 +65,6 @@ noteId h (SetupRequest a d q s) = 0
 noteId h SetupResponse = h
 noteId h ReleaseRequest = h
 noteId h (TxRequest k) = h
-noteId h (ModifyRequest d) = h
 noteId h (DCallProceeding i) = i
 noteId h (DAlert i) = i
 noteId h (DConnect i g d o s) = i
@@ -101,7 +99,6 @@ slotsIn (SetupRequest a d q s) = s
 slotsIn SetupResponse = 0
 slotsIn ReleaseRequest = 0
 slotsIn (TxRequest k) = 0
-slotsIn (ModifyRequest d) = 0
 slotsIn (DCallProceeding i) = 0
 slotsIn (DAlert i) = 0
 slotsIn (DConnect i g d o s) = s
@@ -132,7 +129,6 @@ noteSlots h (SetupRequest a d q s) = orBefore s 1
 noteSlots h SetupResponse = h
 noteSlots h ReleaseRequest = h
 noteSlots h (TxRequest k) = h
-noteSlots h (ModifyRequest d) = h
 noteSlots h (DCallProceeding i) = h
 noteSlots h (DAlert i) = h
 noteSlots h (DConnect i g d o s) = orBefore s h

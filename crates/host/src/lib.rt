@@ -33,6 +33,7 @@ fn event_word(read: EventRead) -> u32
         EventRead::Is(_) => 0,
         EventRead::BadLength => 2 * 16777216,
         EventRead::UnknownKind => 3 * 16777216,
+        EventRead::Retired => 9 * 16777216,
         EventRead::BadBody(place) => 4 * 16777216 + (place as u32) * 65536,
     }
 }

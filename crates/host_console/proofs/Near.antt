@@ -12,7 +12,7 @@ use Rattle.records.specs.declared.events.Event.{Event}
 use Rattle.records.specs.Bytes.{number}
 use Rattle.records.specs.Letters.{Letter, width, fits}
 use Rattle.records.specs.Bodies.{Found, is, badAt, andThen, valueAt, valuesAt, kindIn, bodyOf, size}
-use Rattle.records.specs.Tables.{Read, taken, refused, orRefuse, orPlace, sized, known, find, read, readAmong, readAs, readBody}
+use Rattle.records.specs.Tables.{Read, taken, refused, orRefuse, orPlace, sized, listed, known, find, read, readAmong, readAs, readBody}
 use Rattle.records.specs.Events.{events}
 use Rattle.callcontrol.specs.declared.call.Call.{Call}
 use Rattle.callcontrol.specs.Step.{Outcome, decided}
@@ -55,6 +55,10 @@ place-near : {A B : Type 0} (o : Found A) (f : A → Read B) → Within 255 o �
 place-near (is a) f w g = g a
 place-near (badAt p) f w g = w
 
+current-near : {A : Type 0} (b : Bool) (r : Read A) → Near r → Near (cond b (refused 9 0) r)
+current-near true r h = lit≤ tt
+current-near false r h = h
+
 known-near : {A : Type 0} (b : Bool) (r : Read A) → Near r → Near (cond b r (refused 3 0))
 known-near true r h = h
 known-near false r h = lit≤ tt
@@ -71,7 +75,8 @@ reader-near : (s : List ℕ) → Near (read events s)
 unfolding read readAs readAmong readBody bodyOf
 reader-near s =
     or-near 2 (kindIn s) _
-    (λ n e. known-near (known events n (events .kinds)) _
+    (λ n e. current-near (listed n (events .retired)) _
+    (known-near (known events n (events .kinds)) _
     (sized-near (find events n (length s) (events .kinds)) _
     (λ k f.
     let row = events .rowOf k .letters in
@@ -79,7 +84,7 @@ reader-near s =
     let small : 4 + size row ≤ 255 = leb-true (4 + size row) 255 short in
     place-near (cond (eqb (length s) (4 + size row)) (valuesAt row s 4) (badAt 2)) _
     (test-within 255 2 (eqb (length s) (4 + size row)) (valuesAt row s 4) (lit≤ tt) (values-within row s 4 255 (omega arith)))
-    (λ vs. test-near (events .agrees (events .valueOf k vs)) (events .valueOf k vs)))))
+    (λ vs. test-near (events .agrees (events .valueOf k vs)) (events .valueOf k vs))))))
 
 read-near : (s : List ℕ) {n p : ℕ} → read events s ≡ refused n p → p ≤ 255
 read-near s h = rw h at (reader-near s)

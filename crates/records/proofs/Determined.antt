@@ -27,13 +27,14 @@ equation = turned (λ r. r) (λ r. r) (λ r. refl)
 
 event-back : Read Event → EventRead
 event-back (taken e) = EventRead.Is e
-event-back (refused n place) = cond (eqb n 2) EventRead.BadLength (cond (eqb n 3) EventRead.UnknownKind (EventRead.BadBody place))
+event-back (refused n place) = cond (eqb n 2) EventRead.BadLength (cond (eqb n 3) EventRead.UnknownKind (cond (eqb n 9) EventRead.Retired (EventRead.BadBody place)))
 
 event-same : (r : EventRead) → event-back (asEventRead r) ≡ r
 unfolding event-back
 event-same (EventRead.Is e) = refl
 event-same EventRead.BadLength = refl
 event-same EventRead.UnknownKind = refl
+event-same EventRead.Retired = refl
 event-same (EventRead.BadBody place) = refl
 
 message-back : Read Message → MessageRead

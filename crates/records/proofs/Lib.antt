@@ -4,6 +4,7 @@ pub mod Determined
 pub mod Laws
 pub mod Places
 pub mod Reading
+pub mod Retired
 pub mod RoundTrip
 pub mod Rows
 pub mod Slots

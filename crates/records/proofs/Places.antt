@@ -13,14 +13,14 @@ use lib.ListN.{length}
 use Rattle.records.specs.Bytes.{number}
 use Rattle.records.specs.Letters.{Letter, width, fits}
 use Rattle.records.specs.Bodies.{Values, Found, is, badAt, andThen, size, valueAt, valuesAt, numbersAt, kindIn, bodyOf, allFit}
-use Rattle.records.specs.Tables.{Table, Read, taken, refused, orRefuse, orPlace, find, known, sizeOf, sized, readBody, readAmong, readAs, read}
+use Rattle.records.specs.Tables.{Table, Read, taken, refused, orRefuse, orPlace, find, known, listed, sizeOf, sized, readBody, readAmong, readAs, read}
 use Rattle.records.specs.Events.{events}
 use Rattle.records.specs.Messages.{messages}
 use Rattle.records.specs.Laws.{Lawful, FirstWrong, WrongBody, wrongSize, wrongField, wrongTogether, PlaceIsWrong, WrongHasPlace, PlaceOnlyWithFour}
 use Rattle.records.proofs.Tables.{event-lawful, message-lawful}
 use Rattle.records.proofs.Laws.{both, by-test}
 use Rattle.records.proofs.Reading.{Bad}
-use Rattle.records.proofs.RoundTrip.{one-more, found-number, found-size, found-known, known-kind}
+use Rattle.records.proofs.RoundTrip.{one-more, found-number, found-size, found-known, known-kind, in-force}
 use Rattle.records.proofs.Rows.{by-size, of-all, bad, apart, headed}
 
 -- ---- letters
@@ -121,6 +121,14 @@ body-four : {A B : Type 0} (o : Found A) (f : A → Read B) → ((a : A) → Pla
 body-four (is a) f rest n p e other = rest a n p e other
 body-four (badAt q) f rest n p e other = let is-four : n ≡ 4 = cc in absurd (other is-four)
 
+not-nine : {A : Type 0} (b : Bool) (x : Read A) (p : ℕ) → cond b (refused 9 0) x ≡ refused 4 p → x ≡ refused 4 p
+not-nine true x p e = let z : _≡_ {A = ℕ} 9 4 = cc in absurd (omega arith)
+not-nine false x p e = e
+
+nine-four : {A : Type 0} (b : Bool) (x : Read A) → Placeless x → Placeless (cond b (refused 9 0) x)
+nine-four true x rest n p e other = cc
+nine-four false x rest n p e other = rest n p e other
+
 not-three : {A : Type 0} (b : Bool) (x : Read A) (p : ℕ) → cond b x (refused 3 0) ≡ refused 4 p → (b ≡ true) × (x ≡ refused 4 p)
 not-three true x p e = (refl, e)
 not-three false x p e = let z : _≡_ {A = ℕ} 3 4 = cc in absurd (omega arith)
@@ -161,7 +169,7 @@ module _ (t : Table) (lawful : Lawful t) where
   unfolding read readAs readAmong
   place-is-wrong s p e =
       let head : (n : ℕ) × ((kindIn s ≡ some n) × (readAs t n s ≡ refused 4 p)) = passed 2 (kindIn s) (λ n. readAs t n s) p (λ (h : 2 ≡ 4). omega arith) e in
-      let line : (known t (head .0) (t .kinds) ≡ true) × (orPlace (sized (find t (head .0) (length s) (t .kinds))) (λ k. readBody t k s) ≡ refused 4 p) = not-three (known t (head .0) (t .kinds)) (orPlace (sized (find t (head .0) (length s) (t .kinds))) (λ k. readBody t k s)) p (head .1 .1) in
+      let line : (known t (head .0) (t .kinds) ≡ true) × (orPlace (sized (find t (head .0) (length s) (t .kinds))) (λ k. readBody t k s) ≡ refused 4 p) = not-three (known t (head .0) (t .kinds)) (orPlace (sized (find t (head .0) (length s) (t .kinds))) (λ k. readBody t k s)) p (not-nine (listed (head .0) (t .retired)) (readAmong t (t .kinds) (head .0) s) p (head .1 .1)) in
       let w : (k : t .Kind) × ((head .0 ≡ t .rowOf k .number) × WrongBody t k s p) = of-number (head .0) s p (find t (head .0) (length s) (t .kinds)) refl (line .0) (line .1) in
       (w .0, (head .1 .0 ∙ ap some (w .1 .0), w .1 .1))
 
@@ -174,10 +182,10 @@ module _ (t : Table) (lawful : Lawful t) where
   size-refused k s other =
       let kn : known t (t .rowOf k .number) (t .kinds) ≡ true = found-known t lawful _ (sizeOf t k) (t .kinds) k (lawful .found k) in
       let gone : find t (t .rowOf k .number) (length s) (t .kinds) ≡ none = so-none k s (find t (t .rowOf k .number) (length s) (t .kinds)) refl other in
-      rw (kn, gone)
+      rw (in-force t lawful k, kn, gone)
 
   by-its-size : (k : t .Kind) (s : List ℕ) → length s ≡ sizeOf t k → {r : Read (t .Value)} → r ≡ readBody t k s → r ≡ readAs t (t .rowOf k .number) s
-  by-its-size k s whole e = of-all t _ s (by-size t (t .kinds) k s refl (found-known t lawful _ (sizeOf t k) (t .kinds) k (lawful .found k)) whole (lawful .found k) e)
+  by-its-size k s whole e = of-all t _ s (in-force t lawful k) (by-size t (t .kinds) k s refl (found-known t lawful _ (sizeOf t k) (t .kinds) k (lawful .found k)) whole (lawful .found k) e)
 
   pub wrong-has-place : WrongHasPlace t
   wrong-has-place s p k kind (wrongSize other) = sym (headed t s (sym kind) (size-refused k s other))
@@ -189,7 +197,7 @@ module _ (t : Table) (lawful : Lawful t) where
   unfolding read readAs readAmong readBody
   place-only-with-four s =
       unplaced 2 (kindIn s) _
-      (λ n. three-four (known t n (t .kinds)) _ (body-four (sized (find t n (length s) (t .kinds))) _ (λ k. body-four (bodyOf (t .rowOf k .letters) s) _ (λ vs. four (t .agrees (t .valueOf k vs)) _ (t .clash)))))
+      (λ n. nine-four (listed n (t .retired)) _ (three-four (known t n (t .kinds)) _ (body-four (sized (find t n (length s) (t .kinds))) _ (λ k. body-four (bodyOf (t .rowOf k .letters) s) _ (λ vs. four (t .agrees (t .valueOf k vs)) _ (t .clash))))))
 
 -- ---- the two tables
 

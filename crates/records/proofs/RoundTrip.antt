@@ -8,7 +8,7 @@ use mathlib.Core.Logic.{_⊎_, inl, inr, ⊎-elim}
 use mathlib.Core.Option.{Option, none, some}
 use native.Mathlib.Omega.{arith}
 use native.Mathlib.Nat.{pow-suc, zero-add}
-use borrow.Author.Tests.{ltb-true, leb-true, eqb-true, le-leb, eq-eqb}
+use borrow.Author.Tests.{ltb-true, leb-true, eqb-true, le-leb, eq-eqb, not-true}
 use lib.Dec.{lit<, ltb, leb, eqb}
 use lib.ListN.{length, getD, take, drop, length-drop, take-append-drop}
 use lib.Seq.{drop-cons, drop-drop, drop-at, take-add, take-all, take-append-seam, sets, sets-eq}
@@ -18,7 +18,7 @@ use Rattle.records.specs.declared.letters.Long.{Long}
 use Rattle.records.specs.Letters.{Letter, byte, word, long, width, fits, spanOf, within, isTimer, isDirectTimer}
 use Rattle.records.specs.Bytes.{number, bytes}
 use Rattle.records.specs.Bodies.{Values, Flat, Wrote, wrote, notWritten, Found, is, badAt, size, andThen, valueAt, valuesAt, kindIn, bodyOf, allFit, bodyBytes, flatSize, flatFits, flatBytes, written}
-use Rattle.records.specs.Tables.{Table, Read, taken, refused, orRefuse, orPlace, find, known, sizeOf, sized, readBody, readAmong, readAs, read, flatOf, flat, fine, write}
+use Rattle.records.specs.Tables.{Table, Read, taken, refused, orRefuse, orPlace, find, known, listed, sizeOf, sized, readBody, readAmong, readAs, read, flatOf, flat, fine, write}
 use Rattle.records.specs.Laws.{every, Lawful, WrittenReadsBack, WriterReadsBack, ReadIsWrittenBack, ReadWritesBack}
 use Rattle.records.specs.Events.{events}
 use Rattle.records.specs.Messages.{messages}
@@ -160,7 +160,11 @@ held : {A B : Type 0} (o : Found A) (f : A → Read B) (v : B) → orPlace o f �
 held (is a) f v e = (a, (refl, e))
 held (badAt p) f v e = let z : _≡_ {A = ℕ} 0 1 = cc in absurd (omega arith)
 
--- a number that is known, and a kind that has the size
+-- a number that is not retired and is known, and a kind that has the size
+used : {A : Type 0} (b : Bool) (x : Read A) (v : A) → cond b (refused 9 0) x ≡ taken v → x ≡ taken v
+used true x v e = cc
+used false x v e = e
+
 knew : {A : Type 0} (b : Bool) (x : Read A) (v : A) → cond b x (refused 3 0) ≡ taken v → x ≡ taken v
 knew true x v e = e
 knew false x v e = cc
@@ -217,6 +221,9 @@ module _ (t : Table) (lawful : Lawful t) where
       ⊎-elim (λ w. rw (w .1) at (both (p j) (every p ks) h .0)) (λ w. every-found p n z ks k w (both (p j) (every p ks) h .1))
       (chosen (eqb n (t .rowOf j .number) && eqb z (sizeOf t j)) j k (find t n z ks) e)
 
+  pub in-force : (k : t .Kind) → listed (t .rowOf k .number) (t .retired) ≡ false
+  in-force k = not-true _ (every-found _ (t .rowOf k .number) (sizeOf t k) (t .kinds) k (lawful .found k) (lawful .current))
+
   pub narrow : (k : t .Kind) → (t .rowOf k .number < 65536) × (4 + size (t .rowOf k .letters) < 65536)
   narrow k =
       let w : (ltb (t .rowOf k .number) 65536 ≡ true) × (ltb (4 + size (t .rowOf k .letters)) 65536 ≡ true) = both _ _ (every-found _ (t .rowOf k .number) (sizeOf t k) (t .kinds) k (lawful .found k) (lawful .narrow)) in
@@ -234,14 +241,14 @@ module _ (t : Table) (lawful : Lawful t) where
   unfolding kindIn
   holds-read k vs s h agrees =
       let head : some (t .rowOf k .number) ≡ kindIn s = rw (le-leb 4 (length s) (omega arith), eq-eqb _ _ (h .said), h .kind) in
-      sym (headed t s head (of-all t _ s (by-size t (t .kinds) k s refl (found-known _ _ (t .kinds) k (lawful .found k)) (h .measured) (lawful .found k) (good t k s (h .measured) (record { held = sym (h .body) }) agrees))))
+      sym (headed t s head (of-all t _ s (in-force k) (by-size t (t .kinds) k s refl (found-known _ _ (t .kinds) k (lawful .found k)) (h .measured) (lawful .found k) (good t k s (h .measured) (record { held = sym (h .body) }) agrees))))
 
   -- and nothing else is
   read-holds : (v : t .Value) (s : List ℕ) → read t s ≡ taken v → (k : t .Kind) × ((vs : Values (t .rowOf k .letters)) × (Holds k vs s × ((t .agrees v ≡ true) × (t .valueOf k vs ≡ v))))
   unfolding read readAs readAmong readBody kindIn bodyOf
   read-holds v s e =
       let head : (n : ℕ) × ((kindIn s ≡ some n) × (readAs t n s ≡ taken v)) = took 2 (kindIn s) (λ n. readAs t n s) v e in
-      let line : (k : t .Kind) × ((sized (find t (head .0) (length s) (t .kinds)) ≡ is k) × (readBody t k s ≡ taken v)) = held (sized (find t (head .0) (length s) (t .kinds))) (λ k. readBody t k s) v (knew (known t (head .0) (t .kinds)) (orPlace (sized (find t (head .0) (length s) (t .kinds))) (λ k. readBody t k s)) v (head .1 .1)) in
+      let line : (k : t .Kind) × ((sized (find t (head .0) (length s) (t .kinds)) ≡ is k) × (readBody t k s ≡ taken v)) = held (sized (find t (head .0) (length s) (t .kinds))) (λ k. readBody t k s) v (knew (known t (head .0) (t .kinds)) (orPlace (sized (find t (head .0) (length s) (t .kinds))) (λ k. readBody t k s)) v (used (listed (head .0) (t .retired)) (readAmong t (t .kinds) (head .0) s) v (head .1 .1))) in
       let k : t .Kind = line .0 in
       let w : (vs : Values (t .rowOf k .letters)) × ((bodyOf (t .rowOf k .letters) s ≡ is vs) × (cond (t .agrees (t .valueOf k vs)) (taken (t .valueOf k vs)) (refused 4 (t .clash)) ≡ taken v)) = held (bodyOf (t .rowOf k .letters) s) _ v (line .1 .1) in
       let vs : Values (t .rowOf k .letters) = w .0 in

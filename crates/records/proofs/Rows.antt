@@ -9,7 +9,7 @@ use borrow.Author.Tests.{eq-eqb, ne-eqb, eqb-true}
 use lib.Dec.{eqb}
 use lib.ListN.{length}
 use Rattle.records.specs.Bodies.{Values, size, bodyOf, kindIn}
-use Rattle.records.specs.Tables.{Table, Read, taken, refused, find, known, sizeOf, readBody, readAmong, readAs, read}
+use Rattle.records.specs.Tables.{Table, Read, taken, refused, find, known, listed, sizeOf, readBody, readAmong, readAs, read}
 use Rattle.records.specs.Laws.{every}
 use Rattle.records.proofs.Laws.{by-test, both}
 use Rattle.records.proofs.Reading.{Good, Bad}
@@ -59,17 +59,18 @@ module _ (t : Table) (ks : List (t .Kind)) (k : t .Kind) {n : ℕ} (s : List ℕ
   unfolding readAmong
   by-size whole found e = rw (key, kn, whole, found) e
 
--- all kinds
-pub of-all : (t : Table) (n : ℕ) (s : List ℕ) {r : Read (t .Value)} → r ≡ readAmong t (t .kinds) n s → r ≡ readAs t n s
-unfolding readAs
-of-all t n s e = e
+module _ (t : Table) (n : ℕ) (s : List ℕ) where
+  -- all kinds, where the number is not retired
+  pub of-all : listed n (t .retired) ≡ false → {r : Read (t .Value)} → r ≡ readAmong t (t .kinds) n s → r ≡ readAs t n s
+  unfolding readAs
+  of-all current e = rw current e
+
+  -- a retired number
+  pub of-none : listed n (t .retired) ≡ true → refused 9 0 ≡ readAs t n s
+  unfolding readAs
+  of-none retired = rw retired
 
 -- ---- a number that none of some kinds has
-
--- whether a number stands in a list
-abbrev pub has : ℕ → List ℕ → Bool
-has m [] = false
-has m (x ∷ xs) = cond (eqb m x) true (has m xs)
 
 module _ (n : ℕ) where
   -- it is none of some numbers, as the last arm of a match knows it
@@ -77,28 +78,28 @@ module _ (n : ℕ) where
   Others T [] = T
   Others T (m ∷ ms) = Others (T × (n ≡ m → ⊥)) ms
 
-  apart-from : {T : Type 0} (ms : List ℕ) → Others T ms → ((m : ℕ) → has m ms ≡ true → n ≡ m → ⊥) × T
+  apart-from : {T : Type 0} (ms : List ℕ) → Others T ms → ((m : ℕ) → listed m ms ≡ true → n ≡ m → ⊥) × T
   apart-from [] rest = (λ m h e. let z : _≡_ {A = Bool} false true = h in let y : _≡_ {A = ℕ} 0 1 = cc in omega arith, rest)
   apart-from (x ∷ ms) rest =
       let r = apart-from ms rest in
       (λ m h e. by-test (eqb m x) (λ y. r .1 .1 (e ∙ eqb-true m x y)) (λ no. r .0 m (rw no at h) e), r .1 .0)
 
 module _ (t : Table) (n : ℕ) (ms : List ℕ) where
-  elsewhere : ((m : ℕ) → has m ms ≡ true → n ≡ m → ⊥) → (ks ls : List (t .Kind)) → every (λ k. has (t .rowOf k .number) ms) ks ≡ true → (known t n (ks ++ ls) ≡ known t n ls) × ((z : ℕ) → find t n z (ks ++ ls) ≡ find t n z ls)
+  elsewhere : ((m : ℕ) → listed m ms ≡ true → n ≡ m → ⊥) → (ks ls : List (t .Kind)) → every (λ k. listed (t .rowOf k .number) ms) ks ≡ true → (known t n (ks ++ ls) ≡ known t n ls) × ((z : ℕ) → find t n z (ks ++ ls) ≡ find t n z ls)
   elsewhere f [] ls h = (refl, λ z. refl)
   elsewhere f (k ∷ ks) ls h =
-      let w : (has (t .rowOf k .number) ms ≡ true) × (every (λ j. has (t .rowOf j .number) ms) ks ≡ true) = both _ _ h in
+      let w : (listed (t .rowOf k .number) ms ≡ true) × (every (λ j. listed (t .rowOf j .number) ms) ks ≡ true) = both _ _ h in
       let r = elsewhere f ks ls (w .1) in
       (rw (ne-eqb _ _ (f (t .rowOf k .number) (w .0))) (r .0), λ z. rw (ne-eqb _ _ (f (t .rowOf k .number) (w .0))) (r .1 z))
 
   -- the kinds of those numbers are passed over
-  pub past-kinds : (ks ls : List (t .Kind)) (s : List ℕ) → every (λ k. has (t .rowOf k .number) ms) ks ≡ true → Others n (Unit {0}) ms → {r : Read (t .Value)} → r ≡ readAmong t ls n s → r ≡ readAmong t (ks ++ ls) n s
+  pub past-kinds : (ks ls : List (t .Kind)) (s : List ℕ) → every (λ k. listed (t .rowOf k .number) ms) ks ≡ true → Others n (Unit {0}) ms → {r : Read (t .Value)} → r ≡ readAmong t ls n s → r ≡ readAmong t (ks ++ ls) n s
   unfolding readAmong
   past-kinds ks ls s all rest e =
       let w = elsewhere (apart-from n ms rest .0) ks ls all in rw (w .0, w .1 (length s)) e
 
   -- and behind the last there is none
-  pub unknown : (ks : List (t .Kind)) (s : List ℕ) → every (λ k. has (t .rowOf k .number) ms) ks ≡ true → Others n (Unit {0}) ms → refused 3 0 ≡ readAmong t (ks ++ []) n s
+  pub unknown : (ks : List (t .Kind)) (s : List ℕ) → every (λ k. listed (t .rowOf k .number) ms) ks ≡ true → Others n (Unit {0}) ms → refused 3 0 ≡ readAmong t (ks ++ []) n s
   unfolding readAmong
   unknown ks s all rest = past-kinds ks [] s all rest refl
 

@@ -12,7 +12,7 @@ use Rattle.records.specs.Laws.{Lawful}
 use Rattle.records.proofs.Laws.{both}
 use Rattle.records.specs.declared.events.Event.{Event}
 use Rattle.records.specs.declared.messages.Message.{Message}
-use Rattle.records.specs.Events.{events, EventKind, eventRow, eventKinds, eventOf, eventApart, setupRequest, setupRequestSlots, setupResponse, releaseRequest, txRequest, modifyRequest, dCallProceeding, dAlert, dConnect, dConnectSlots, dConnectAcknowledge, dSetup, dInfo, dInfoSlots, dTxGranted, dTxCeased, dTxInterrupt, dTxWait, dTxContinue, dCallRestore, dDisconnect, dRelease, reportSent, reportFailed, break, resume, expiry}
+use Rattle.records.specs.Events.{events, EventKind, eventRow, eventKinds, eventOf, eventApart, setupRequest, setupRequestSlots, setupResponse, releaseRequest, txRequest, dCallProceeding, dAlert, dConnect, dConnectSlots, dConnectAcknowledge, dSetup, dInfo, dInfoSlots, dTxGranted, dTxCeased, dTxInterrupt, dTxWait, dTxContinue, dCallRestore, dDisconnect, dRelease, reportSent, reportFailed, break, resume, expiry}
 use Rattle.records.specs.Messages.{messages, MessageKind, messageRow, messageKinds, messageOf, messageApart, uSetup, uSetupSlots, uConnect, uDisconnect, uRelease, uInfo, uTxDemand, uTxCeased, uCallRestore, stop, start, configure, cancel, setupIndication, setupConfirm, proceed, alert, complete, releaseIndication, releaseConfirm, txIndication, modifyIndication, namedPlace, channelAnswer}
 
 -- the value of the last letter, which is in its range where all are
@@ -38,7 +38,6 @@ event-line setupRequestSlots = (refl, λ vs fit. carried (λ v. _≡_ {A = (k : 
 event-line setupResponse = (refl, λ vs fit. refl)
 event-line releaseRequest = (refl, λ vs fit. refl)
 event-line txRequest = (refl, λ vs fit. refl)
-event-line modifyRequest = (refl, λ vs fit. refl)
 event-line dCallProceeding = (refl, λ vs fit. refl)
 event-line dAlert = (refl, λ vs fit. refl)
 event-line dConnect = (refl, λ vs fit. refl)
@@ -70,7 +69,6 @@ event-again (Event.SetupRequest address mode ask (suc m)) = refl
 event-again Event.SetupResponse = refl
 event-again Event.ReleaseRequest = refl
 event-again (Event.TxRequest go) = refl
-event-again (Event.ModifyRequest mode) = refl
 event-again (Event.DCallProceeding id) = refl
 event-again (Event.DAlert id) = refl
 event-again (Event.DConnect id grant mode code zero) = refl
@@ -94,7 +92,7 @@ event-again Event.Resume = refl
 event-again (Event.Expiry timer) = refl
 
 pub event-lawful : Lawful events
-event-lawful = record { together = λ k. event-line k .1; again = event-again; found = event-found; narrow = refl }
+event-lawful = record { together = λ k. event-line k .1; again = event-again; found = event-found; current = refl; narrow = refl }
 
 -- a kind's number and size lead to it, and its values are taken apart as they were put together
 message-line : (k : MessageKind) → (find messages (messageRow k .number) (sizeOf messages k) messageKinds ≡ some k) × ((vs : Values (messageRow k .letters)) → allFit (messageRow k .letters) vs ≡ true → _≡_ {A = (k : MessageKind) × Values (messageRow k .letters)} (messageApart (messageOf k vs)) (k, vs))
@@ -153,4 +151,4 @@ message-again (Message.Place at) = refl
 message-again (Message.ChannelAnswer number verdict) = refl
 
 pub message-lawful : Lawful messages
-message-lawful = record { together = λ k. message-line k .1; again = message-again; found = message-found; narrow = refl }
+message-lawful = record { together = λ k. message-line k .1; again = message-again; found = message-found; current = refl; narrow = refl }

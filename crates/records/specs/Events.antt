@@ -10,7 +10,7 @@ use Rattle.records.specs.Bodies.{Values}
 use Rattle.records.specs.Tables.{Row, row, Table, Read, taken, refused}
 
 pub data EventKind : Type 0 where
-  setupRequest setupRequestSlots setupResponse releaseRequest txRequest modifyRequest dCallProceeding dAlert dConnect dConnectSlots dConnectAcknowledge dSetup dInfo dInfoSlots dTxGranted dTxCeased dTxInterrupt dTxWait dTxContinue dCallRestore dDisconnect dRelease reportSent reportFailed break resume expiry : EventKind
+  setupRequest setupRequestSlots setupResponse releaseRequest txRequest dCallProceeding dAlert dConnect dConnectSlots dConnectAcknowledge dSetup dInfo dInfoSlots dTxGranted dTxCeased dTxInterrupt dTxWait dTxContinue dCallRestore dDisconnect dRelease reportSent reportFailed break resume expiry : EventKind
 
 abbrev pub eventRow : EventKind → Row
 eventRow setupRequest = row 0x0101 (a₁ ∷ d ∷ q ∷ [])
@@ -18,7 +18,6 @@ eventRow setupRequestSlots = row 0x0101 (a₁ ∷ d ∷ q ∷ s ∷ [])
 eventRow setupResponse = row 0x0102 ([])
 eventRow releaseRequest = row 0x0103 ([])
 eventRow txRequest = row 0x0104 (k ∷ [])
-eventRow modifyRequest = row 0x0105 (d ∷ [])
 eventRow dCallProceeding = row 0x0201 (i ∷ [])
 eventRow dAlert = row 0x0202 (i ∷ [])
 eventRow dConnect = row 0x0203 (i ∷ g ∷ d ∷ o ∷ [])
@@ -50,7 +49,6 @@ userKinds =
     setupResponse ∷
     releaseRequest ∷
     txRequest ∷
-    modifyRequest ∷
     []
 
 abbrev pub setupKinds : List EventKind
@@ -96,7 +94,6 @@ eventOf setupRequestSlots v = Event.SetupRequest (v .0) (v .1 .0) (v .1 .1 .0) (
 eventOf setupResponse v = Event.SetupResponse
 eventOf releaseRequest v = Event.ReleaseRequest
 eventOf txRequest v = Event.TxRequest (v .0)
-eventOf modifyRequest v = Event.ModifyRequest (v .0)
 eventOf dCallProceeding v = Event.DCallProceeding (v .0)
 eventOf dAlert v = Event.DAlert (v .0)
 eventOf dConnect v = Event.DConnect (v .0) (v .1 .0) (v .1 .1 .0) (v .1 .1 .1 .0) 0
@@ -126,7 +123,6 @@ eventApart (Event.SetupRequest address mode ask (suc n)) = (setupRequestSlots, (
 eventApart Event.SetupResponse = (setupResponse, tt)
 eventApart Event.ReleaseRequest = (releaseRequest, tt)
 eventApart (Event.TxRequest go) = (txRequest, (go, tt))
-eventApart (Event.ModifyRequest mode) = (modifyRequest, (mode, tt))
 eventApart (Event.DCallProceeding id) = (dCallProceeding, (id, tt))
 eventApart (Event.DAlert id) = (dAlert, (id, tt))
 eventApart (Event.DConnect id grant mode code zero) = (dConnect, (id, (grant, (mode, (code, tt)))))
@@ -155,6 +151,7 @@ events =
       Kind = EventKind;
       Value = Event;
       kinds = eventKinds;
+      retired = 0x0105 ∷ [];  -- MODIFY request, by document 02
       rowOf = eventRow;
       valueOf = eventOf;
       apart = eventApart;
@@ -167,4 +164,5 @@ abbrev pub asEventRead : EventRead → Read Event
 asEventRead (EventRead.Is e) = taken e
 asEventRead EventRead.BadLength = refused 2 0
 asEventRead EventRead.UnknownKind = refused 3 0
+asEventRead EventRead.Retired = refused 9 0
 asEventRead (EventRead.BadBody place) = refused 4 place

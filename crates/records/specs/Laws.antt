@@ -9,7 +9,7 @@ use lib.ListN.{length, getD, take, drop}
 use Rattle.records.specs.Bytes.{number}
 use Rattle.records.specs.Letters.{Letter, width, fits}
 use Rattle.records.specs.Bodies.{Values, wrote, size, numbersAt, kindIn, allFit, flatBytes}
-use Rattle.records.specs.Tables.{Table, sizeOf, taken, refused, find, read, flat, fine, write}
+use Rattle.records.specs.Tables.{Table, sizeOf, listed, taken, refused, find, read, flat, fine, write}
 
 -- a number stands nowhere in a list
 abbrev pub missing : ℕ → List ℕ → Bool
@@ -50,6 +50,13 @@ module _ (t : Table) where
   abbrev pub PlaceOnlyWithFour : Type 0
   PlaceOnlyWithFour = (s : List ℕ) (n p : ℕ) → read t s ≡ refused n p → (n ≡ 4 → ⊥) → p ≡ 0
 
+  -- a retired kind is answered with 9, whatever its body, and nothing else is
+  abbrev pub RetiredIsNine : Type 0
+  RetiredIsNine = (s : List ℕ) (n : ℕ) → kindIn s ≡ some n → listed n (t .retired) ≡ true → read t s ≡ refused 9 0
+
+  abbrev pub NineIsRetired : Type 0
+  NineIsRetired = (s : List ℕ) (p : ℕ) → read t s ≡ refused 9 p → (n : ℕ) × ((kindIn s ≡ some n) × (listed n (t .retired) ≡ true))
+
   -- the numbers of the kinds
   abbrev pub numbers : List ℕ
   numbers = map (λ k. t .rowOf k .number) (t .kinds)
@@ -65,6 +72,8 @@ module _ (t : Table) where
     pub again : (v : t .Value) → t .valueOf (t .apart v .0) (t .apart v .1) ≡ v
     -- a kind's number and size lead to it
     pub found : (k : t .Kind) → find t (t .rowOf k .number) (sizeOf t k) (t .kinds) ≡ some k
+    -- no kind is retired
+    pub current : every (λ k. not (listed (t .rowOf k .number) (t .retired))) (t .kinds) ≡ true
     -- numbers and lengths take two bytes
     pub narrow : every (λ k. ltb (t .rowOf k .number) 65536 && ltb (4 + size (t .rowOf k .letters)) 65536) (t .kinds) ≡ true
 
@@ -87,6 +96,10 @@ module _ (t : Table) where
 -- no kind of one table has a number of the other
 abbrev pub NoneShared : Table → Table → Type 0
 NoneShared t u = (j : t .Kind) (k : u .Kind) → t .rowOf j .number ≡ u .rowOf k .number → ⊥
+
+-- a number that one table has retired stands in no line of either
+abbrev pub RetiredInNeither : Table → Table → Type 0
+RetiredInNeither t u = (n : ℕ) → listed n (t .retired) ≡ true → ((j : t .Kind) → t .rowOf j .number ≡ n → ⊥) × ((k : u .Kind) → u .rowOf k .number ≡ n → ⊥)
 
 -- a promise that says `f result ≡ x` leaves one result, whatever x is
 abbrev pub Determines : {A B : Type 0} → (A → B) → Type 0

@@ -169,6 +169,7 @@ messages =
       Kind = MessageKind;
       Value = Message;
       kinds = messageKinds;
+      retired = [];
       rowOf = messageRow;
       valueOf = messageOf;
       apart = messageApart;

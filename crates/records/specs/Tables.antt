@@ -21,12 +21,13 @@ pub data Read (A : Type 0) : Type 0 where
   taken : A → Read A
   refused : ℕ → ℕ → Read A
 
--- a table, and what its lines stand for. `agrees` is what a value must meet beyond the ranges of its letters, and `clash` the place of the field that
+-- a table, and what its lines stand for. `retired` are the numbers of kinds that are taken no more. `agrees` is what a value must meet beyond the ranges of its letters, and `clash` the place of the field that
 -- is wrong where it does not
 pub record Table : Type 1 where
   pub Kind : Type 0
   pub Value : Type 0
   pub kinds : List Kind
+  pub retired : List ℕ
   pub rowOf : Kind → Row
   pub valueOf : (k : Kind) → Values (rowOf k .letters) → Value
   pub apart : Value → (k : Kind) × Values (rowOf k .letters)
@@ -47,6 +48,11 @@ orPlace (badAt p) f = refused 4 p
 abbrev pub sized : {A : Type 0} → Option A → Found A
 sized none = badAt 2
 sized (some k) = is k
+
+-- whether a number stands in a list
+abbrev pub listed : ℕ → List ℕ → Bool
+listed n [] = false
+listed n (m ∷ ms) = cond (eqb n m) true (listed n ms)
 
 module _ (t : Table) where
   -- how many bytes a record of a kind has
@@ -72,11 +78,11 @@ module _ (t : Table) where
   unfoldable pub readAmong : List (t .Kind) → ℕ → List ℕ → Read (t .Value)
   readAmong ks n s = cond (known n ks) (orPlace (sized (find n (length s) ks)) (λ k. readBody k s)) (refused 3 0)
 
-  -- the record of a kind by its number
+  -- the record of a kind by its number: 9 where the kind is retired, whatever the body
   unfoldable pub readAs : ℕ → List ℕ → Read (t .Value)
-  readAs n s = readAmong (t .kinds) n s
+  readAs n s = cond (listed n (t .retired)) (refused 9 0) (readAmong (t .kinds) n s)
 
-  -- 2 for the length, 3 for the kind, 4 for the body: the lowest that applies
+  -- 2 for the length, 3 for the kind, 9 for a retired one, 4 for the body: the first of them that applies
   unfoldable pub read : List ℕ → Read (t .Value)
   read s = orRefuse 2 (kindIn s) (λ n. readAs n s)
 

@@ -42,10 +42,6 @@ pub enum Event {
     TxRequest {
         go: u8,
     },
-    // 0105 MODIFY request. The user asks for the other mode.
-    ModifyRequest {
-        mode: u8,
-    },
     // 0201 D-CALL PROCEEDING. The network works on the call.
     DCallProceeding {
         id: u16,
@@ -136,11 +132,12 @@ pub enum Event {
     },
 }
 
-// What reading finds: the value, or the paper's refusals 2, 3 and 4; 4 with the place of the first wrong field, or 2 for the body's size.
+// What reading finds: the value, or the refusals 2, 3, 9 (a retired kind) and 4; 4 with the place of the first wrong field, or 2 for the body's size.
 pub enum EventRead {
     Is(Event),
     BadLength,
     UnknownKind,
+    Retired,
     BadBody(u8),
 }
 
@@ -539,15 +536,6 @@ fn read_user(kind: u16, s: &[u8]) -> EventRead
             };
             EventRead::Is(Event::TxRequest { go })
         }
-        0x0105 => { // MODIFY request d
-            if s.len() != 5 {
-                return EventRead::BadBody(2);
-            }
-            let ByteField::Is(mode) = byte_in(s, 4, Byte::D) else {
-                return EventRead::BadBody(4);
-            };
-            EventRead::Is(Event::ModifyRequest { mode })
-        }
         _ => read_setup(kind, s),
     }
 }
@@ -559,6 +547,9 @@ pub fn read_event(s: &[u8]) -> EventRead
     let Head::Kind(kind) = kind_in(s) else {
         return EventRead::BadLength;
     };
+    if kind == 0x0105 { // MODIFY request, retired
+        return EventRead::Retired;
+    }
     read_user(kind, s)
 }
 
@@ -652,14 +643,6 @@ fn put_event(e: Event, out: &mut [u8]) -> usize
             }
             put_head(out, 5, 0x0104);
             out[4] = go;
-            5
-        }
-        Event::ModifyRequest { mode } => { // MODIFY request d
-            if out.len() < 5 {
-                return 0;
-            }
-            put_head(out, 5, 0x0105);
-            out[4] = mode;
             5
         }
         Event::DCallProceeding { id } => { // D-CALL PROCEEDING i
@@ -869,7 +852,6 @@ fn event_fits(e: Event) -> bool
         Event::SetupResponse => true, // SETUP response
         Event::ReleaseRequest => true, // RELEASE request
         Event::TxRequest { go } => byte_fits(Byte::K, go), // TX request k
-        Event::ModifyRequest { mode } => byte_fits(Byte::D, mode), // MODIFY request d
         Event::DCallProceeding { id } => word_fits(Word::I, id), // D-CALL PROCEEDING i
         Event::DAlert { id } => word_fits(Word::I, id), // D-ALERT i
         Event::DConnect {

@@ -93,7 +93,6 @@ impl Console {
             Event::SetupResponse
             | Event::ReleaseRequest
             | Event::TxRequest { .. }
-            | Event::ModifyRequest { .. }
             | Event::ReportSent
             | Event::ReportFailed
             | Event::Expiry { .. } => match place as usize {

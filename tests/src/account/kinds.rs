@@ -104,11 +104,16 @@ impl Kind {
         self.bodies.iter().copied().find(|fields| size_of(fields) == size)
     }
 
+    /// Whether the kind is taken no more: answer 9, whatever its body. Its name and its fields are for older files.
+    pub fn is_retired(&self) -> bool {
+        RETIRED.contains(&self.number)
+    }
+
     /// Of a console: whether this event goes to the place that is named beside it. The others find
     /// theirs themselves.
     pub fn names_place(&self) -> bool {
         match self.party {
-            Party::User => self.number != SETUP_REQUEST,
+            Party::User => self.number != SETUP_REQUEST && !self.is_retired(),
             Party::LowerLayers => matches!(self.number, REPORT_SENT | REPORT_FAILED),
             Party::Timers => true,
             Party::Network | Party::Console => false,
@@ -287,6 +292,9 @@ pub const MESSAGES: &[Kind] = &[
     kind(0x0709, "MODIFY indication", User, &[&[D, S]]),
 ];
 
+/// Kinds of events that are taken no more.
+const RETIRED: &[u16] = &[0x0105];
+
 const SETUP_REQUEST: u16 = 0x0101;
 const REPORT_SENT: u16 = 0x0301;
 const REPORT_FAILED: u16 = 0x0302;
@@ -302,6 +310,7 @@ pub const ANSWERS: &[(u32, &str, &str)] = &[
     (6, "NO_ROW", "no row for this event in this state"),
     (7, "NO_ROOM", "the messages are longer than the lent buffer"),
     (8, "OWN_TRANSMISSION", "D-INFO over own transmission"),
+    (9, "RETIRED", "the kind is retired"),
     (40, "PLACE_OVER", "the place that is named is over 7"),
     (41, "ID_HELD", "D-SETUP with an identifier that a place holds"),
     (42, "ID_AWAITED", "SETUP request while a place outside IDLE has no identifier"),

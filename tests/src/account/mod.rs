@@ -41,6 +41,8 @@ pub enum Refusal {
     Buffer,
     /// 8, after 6 and before 7: D-INFO over own transmission.
     OwnTransmission,
+    /// 9, after 3 and before 4: a kind that is taken no more.
+    Retired,
 }
 
 impl Refusal {
@@ -55,6 +57,7 @@ impl Refusal {
             Refusal::NoRow => 6,
             Refusal::Buffer => 7,
             Refusal::OwnTransmission => 8,
+            Refusal::Retired => 9,
         }
     }
 

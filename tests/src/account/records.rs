@@ -101,7 +101,6 @@ pub enum Event {
     SetupResponse,
     ReleaseRequest,
     TxRequest { k: bool },
-    ModifyRequest { d: Mode },
     // Network.
     DCallProceeding { i: u16 },
     DAlert { i: u16 },
@@ -130,33 +129,85 @@ pub enum Event {
 #[derive(Clone, Copy, Debug, PartialEq, Eq)]
 pub enum Message {
     // U-PDUs.
-    USetup { a: u32, d: Mode, q: bool, s: Option<u8> },
-    UConnect { i: u16 },
-    UDisconnect { i: u16, c: Cause },
-    URelease { i: u16 },
-    UInfo { i: u16, d: Mode },
-    UTxDemand { i: u16 },
-    UTxCeased { i: u16 },
-    UCallRestore { i: u16, a: u32, q: bool },
+    USetup {
+        a: u32,
+        d: Mode,
+        q: bool,
+        s: Option<u8>,
+    },
+    UConnect {
+        i: u16,
+    },
+    UDisconnect {
+        i: u16,
+        c: Cause,
+    },
+    URelease {
+        i: u16,
+    },
+    /// No step writes it any more; message files hold it.
+    UInfo {
+        i: u16,
+        d: Mode,
+    },
+    UTxDemand {
+        i: u16,
+    },
+    UTxCeased {
+        i: u16,
+    },
+    UCallRestore {
+        i: u16,
+        a: u32,
+        q: bool,
+    },
     // Orders to timers and lower layers.
-    Stop { n: Timer },
-    Start { n: Timer, o: u8 },
-    Configure { p: Plane },
+    Stop {
+        n: Timer,
+    },
+    Start {
+        n: Timer,
+        o: u8,
+    },
+    Configure {
+        p: Plane,
+    },
     Cancel,
     // Before the messages of a place of the console.
-    Place { place: u8 },
+    Place {
+        place: u8,
+    },
     // To the lower layers' question of this number. No step writes it.
-    ChannelAnswer { number: u16, v: Verdict },
+    ChannelAnswer {
+        number: u16,
+        v: Verdict,
+    },
     // To the user.
-    SetupIndication { i: u16, a: u32, d: Mode },
-    SetupConfirm { i: u16, g: Grant },
+    SetupIndication {
+        i: u16,
+        a: u32,
+        d: Mode,
+    },
+    SetupConfirm {
+        i: u16,
+        g: Grant,
+    },
     Proceed,
     Alert,
-    Complete { g: Grant },
-    ReleaseIndication { c: Cause },
+    Complete {
+        g: Grant,
+    },
+    ReleaseIndication {
+        c: Cause,
+    },
     ReleaseConfirm,
-    TxIndication { x: u8 },
-    ModifyIndication { d: Mode, s: u8 },
+    TxIndication {
+        x: u8,
+    },
+    ModifyIndication {
+        d: Mode,
+        s: u8,
+    },
 }
 
 impl Event {
@@ -171,7 +222,8 @@ impl Event {
             0x0102 => body.of(0).map(|_| Event::SetupResponse)?,
             0x0103 => body.of(0).map(|_| Event::ReleaseRequest)?,
             0x0104 => Event::TxRequest { k: body.of(1)?.flag()? },
-            0x0105 => Event::ModifyRequest { d: body.of(1)?.d()? },
+            // MODIFY request, whatever its body. Its number is not given to anything else.
+            0x0105 => return Err(Refusal::Retired),
             0x0201 => Event::DCallProceeding { i: body.of(2)?.i()? },
             0x0202 => Event::DAlert { i: body.of(2)?.i()? },
             0x0203 => {
@@ -255,7 +307,6 @@ impl Event {
             Event::SetupResponse
             | Event::ReleaseRequest
             | Event::TxRequest { .. }
-            | Event::ModifyRequest { .. }
             | Event::ReportSent
             | Event::ReportFailed
             | Event::Break
@@ -299,7 +350,6 @@ impl Put for Event {
             Event::SetupResponse => sink.record(0x0102, []),
             Event::ReleaseRequest => sink.record(0x0103, []),
             Event::TxRequest { k } => sink.record(0x0104, [k as u8]),
-            Event::ModifyRequest { d } => sink.record(0x0105, [d as u8]),
             Event::DCallProceeding { i } => sink.record(0x0201, i.to_le_bytes()),
             Event::DAlert { i } => sink.record(0x0202, i.to_le_bytes()),
             Event::DConnect { i, g, d, o, s } => {

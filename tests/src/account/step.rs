@@ -218,9 +218,6 @@ impl Turn {
                 self.pdu(Message::UTxCeased { i });
                 self.call.asked = false;
             }
-            (State::CallActive, Path::Up, Event::ModifyRequest { d }) => {
-                self.pdu(Message::UInfo { i, d });
-            }
             (State::CallActive, Path::Up, Event::DInfo { r, o, d, s, .. }) => {
                 self.restart_t310(r, o);
                 self.slots(s);

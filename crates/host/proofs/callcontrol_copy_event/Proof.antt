@@ -15,11 +15,12 @@ use Rattle.host.proofs.Answers.{copies}
 use Rattle.host.proofs.callcontrol_copy_event.Statement.{statement}
 use Rattle.host.proofs.callcontrol_copy_event.Tie as tie
 
-refuses : (r : EventRead) (out : List ℕ) → OneOf (1 ∷ 2 ∷ 3 ∷ []) (Declared.tagOf event-read.the-type r)
+refuses : (r : EventRead) (out : List ℕ) → OneOf (1 ∷ 2 ∷ 3 ∷ 4 ∷ []) (Declared.tagOf event-read.the-type r)
     → (readWord (asEventRead r), out) ≡ writeRead events (asEventRead r) out
-refuses (EventRead.Is v) out k = absurd (miss (1 ∷ 2 ∷ 3 ∷ []) 0 tt k)
+refuses (EventRead.Is v) out k = absurd (miss (1 ∷ 2 ∷ 3 ∷ 4 ∷ []) 0 tt k)
 refuses EventRead.BadLength out k = refl
 refuses EventRead.UnknownKind out k = refl
+refuses EventRead.Retired out k = refl
 refuses (EventRead.BadBody place) out k = refl
 
 pub callcontrol-copy-event-spec : {M : Type 1} → statement M

@@ -119,7 +119,7 @@ fn run_account_struct(tape: &Tape) -> Sum {
 
 pub fn main() {
     let tape = tape();
-    let mut answers = [0u32; 9];
+    let mut answers = [0u32; 10];
     let mut record = Call::FRESH.pack();
     for event in tape.events() {
         answers[(boundary::step(&mut record, event, &mut [0; OUT_LEN]) >> 24) as usize] += 1;

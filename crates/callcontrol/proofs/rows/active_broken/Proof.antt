@@ -16,7 +16,7 @@ use Rattle.callcontrol.proofs.rows.active_broken.Tie as tie
 
 -- the tags of the events that the situation has no row for
 abbrev others : List ℕ
-others = 0 ∷ 1 ∷ 4 ∷ 5 ∷ 6 ∷ 7 ∷ 8 ∷ 9 ∷ 10 ∷ 11 ∷ 12 ∷ 13 ∷ 14 ∷ 15 ∷ 16 ∷ 19 ∷ 20 ∷ 21 ∷ []
+others = 0 ∷ 1 ∷ 4 ∷ 5 ∷ 6 ∷ 7 ∷ 8 ∷ 9 ∷ 10 ∷ 11 ∷ 12 ∷ 13 ∷ 14 ∷ 15 ∷ 18 ∷ 19 ∷ 20 ∷ []
 
 no-row : (call : Call) (event : Event) → T (hasTag others event) → noRow call ≡ activeBroken call event
 unfolding activeBroken
@@ -24,7 +24,6 @@ no-row call (Event.SetupRequest x y z v) t = refl
 no-row call Event.SetupResponse t = refl
 no-row call Event.ReleaseRequest t = absurd t
 no-row call (Event.TxRequest x) t = absurd t
-no-row call (Event.ModifyRequest x) t = refl
 no-row call (Event.DCallProceeding x) t = refl
 no-row call (Event.DAlert x) t = refl
 no-row call (Event.DConnect x y z w v) t = refl

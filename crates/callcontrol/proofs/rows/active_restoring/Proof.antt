@@ -15,7 +15,7 @@ use Rattle.callcontrol.proofs.rows.active_restoring.Tie as tie
 
 -- the tags of the events that the situation has no row for
 abbrev others : List ℕ
-others = 0 ∷ 1 ∷ 3 ∷ 4 ∷ 5 ∷ 6 ∷ 7 ∷ 8 ∷ 9 ∷ 10 ∷ 11 ∷ 12 ∷ 13 ∷ 14 ∷ 15 ∷ 19 ∷ 20 ∷ 22 ∷ []
+others = 0 ∷ 1 ∷ 3 ∷ 4 ∷ 5 ∷ 6 ∷ 7 ∷ 8 ∷ 9 ∷ 10 ∷ 11 ∷ 12 ∷ 13 ∷ 14 ∷ 18 ∷ 19 ∷ 21 ∷ []
 
 no-row : (call : Call) (event : Event) → T (hasTag others event) → noRow call ≡ activeRestoring call event
 unfolding activeRestoring
@@ -23,7 +23,6 @@ no-row call (Event.SetupRequest x y z v) t = refl
 no-row call Event.SetupResponse t = refl
 no-row call Event.ReleaseRequest t = absurd t
 no-row call (Event.TxRequest x) t = refl
-no-row call (Event.ModifyRequest x) t = refl
 no-row call (Event.DCallProceeding x) t = refl
 no-row call (Event.DAlert x) t = refl
 no-row call (Event.DConnect x y z w v) t = refl

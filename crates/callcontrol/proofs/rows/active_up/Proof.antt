@@ -5,7 +5,7 @@ use lib.Dec.{T}
 use borrow.Author.Needs.{needs}
 use borrow.Author.Tests.{eq-eqb, ne-eqb}
 use Prim.Native.Nat.{ℕ}
-use Rattle.callcontrol.proofs.Settled.{granted-is, interrupted-for-is, interrupted-is, modified-is, none-is, paused-is, tx-ceased-is}
+use Rattle.callcontrol.proofs.Settled.{granted-is, interrupted-for-is, interrupted-is, none-is, paused-is, tx-ceased-is}
 use Rattle.callcontrol.proofs.Tags.{hasTag, oneOf}
 use Rattle.callcontrol.specs.Draft.{noRow}
 use Rattle.callcontrol.specs.Rows.{activeUp}
@@ -16,7 +16,7 @@ use Rattle.callcontrol.proofs.rows.active_up.Tie as tie
 
 -- the tags of the events that the situation has no row for
 abbrev others : List ℕ
-others = 0 ∷ 1 ∷ 5 ∷ 6 ∷ 7 ∷ 8 ∷ 9 ∷ 15 ∷ 16 ∷ 19 ∷ 20 ∷ 22 ∷ []
+others = 0 ∷ 1 ∷ 4 ∷ 5 ∷ 6 ∷ 7 ∷ 8 ∷ 14 ∷ 15 ∷ 18 ∷ 19 ∷ 21 ∷ []
 
 no-row : (call : Call) (event : Event) → T (hasTag others event) → noRow call ≡ activeUp call event
 unfolding activeUp
@@ -24,7 +24,6 @@ no-row call (Event.SetupRequest x y z v) t = refl
 no-row call Event.SetupResponse t = refl
 no-row call Event.ReleaseRequest t = absurd t
 no-row call (Event.TxRequest x) t = absurd t
-no-row call (Event.ModifyRequest x) t = absurd t
 no-row call (Event.DCallProceeding x) t = refl
 no-row call (Event.DAlert x) t = refl
 no-row call (Event.DConnect x y z w v) t = refl
@@ -57,9 +56,6 @@ active-up-spec =
     (λ c. rw (c .before .before .before .event .given .1, eq-eqb _ _ (c .before .if1 .taken)) (c .demands .ensures))
     (λ c κs. search needs)
     (λ c. search needs)
-    (λ c. search needs)
-    (λ c κs. search needs)
-    (λ c. search needs)
     (λ c κs. search needs)
     (λ c. search needs)
     (λ c. search needs)
@@ -74,7 +70,7 @@ active-up-spec =
     (λ c. search needs)
     (λ c. search needs)
     (λ c κs. search needs)
-    (λ c. rw (c .before .before .before .event5 .given .1, eq-eqb _ _ (c .before .if2 .taken), c .of3 .ensures) (interrupted-for-is _))
+    (λ c. rw (c .before .before .before .event4 .given .1, eq-eqb _ _ (c .before .if2 .taken), c .of2 .ensures) (interrupted-for-is _))
     (λ c. search needs)
     (λ c. search needs)
     (λ c κs. search needs)
@@ -93,14 +89,13 @@ active-up-spec =
     (λ c κs. search needs)
     (λ c. rw (c .before .enum-told .given .1) (c .releasing .ensures))
     (λ c. rw (c .before .before .before .event .given .1, ne-eqb _ _ (c .before .if1 .left)) (c .ceases .ensures))
-    (λ c. rw (c .before .before .event2 .given .1, c .of .ensures) (modified-is _ _))
-    (λ c. rw (c .before .before .event3 .given .1) (c .informed .ensures))
-    (λ c. rw (c .before .before .before .event4 .given .1, c .asked-after .ensures, c .before .plane-granted .ensures .0) (granted-is _ _))
-    (λ c. rw (c .before .enum-told2 .given .1, c .of2 .ensures) (tx-ceased-is _))
-    (λ c. rw (c .before .before .before .event5 .given .1, ne-eqb _ _ (c .before .if2 .left), c .of4 .ensures) (interrupted-is _))
-    (λ c. rw (c .before .enum-told3 .given .1, c .of5 .ensures) (paused-is _))
-    (λ c. rw (c .before .before .event6 .given .1) (c .disconnected .ensures))
+    (λ c. rw (c .before .before .event2 .given .1) (c .informed .ensures))
+    (λ c. rw (c .before .before .before .event3 .given .1, c .asked-after .ensures, c .before .plane-granted .ensures .0) (granted-is _ _))
+    (λ c. rw (c .before .enum-told2 .given .1, c .of .ensures) (tx-ceased-is _))
+    (λ c. rw (c .before .before .before .event4 .given .1, ne-eqb _ _ (c .before .if2 .left), c .of3 .ensures) (interrupted-is _))
+    (λ c. rw (c .before .enum-told3 .given .1, c .of4 .ensures) (paused-is _))
+    (λ c. rw (c .before .before .event5 .given .1) (c .disconnected .ensures))
     (λ c. rw (c .before .enum-told4 .given .1) (c .released .ensures))
     (λ c. rw (c .before .enum-told5 .given .1) (c .cut .ensures))
-    (λ c. rw (c .before .before .event7 .given .1) (c .active-expiry .ensures))
-    (λ c. rw (c .none .ensures) (none-is (c .before .before .args .call) ∙ no-row (c .before .before .args .call) (c .before .before .args .event) (oneOf others (c .before .before .args .event) (c .before .match .keys13)))))
+    (λ c. rw (c .before .before .event6 .given .1) (c .active-expiry .ensures))
+    (λ c. rw (c .none .ensures) (none-is (c .before .before .args .call) ∙ no-row (c .before .before .args .call) (c .before .before .args .event) (oneOf others (c .before .before .args .event) (c .before .match .keys12)))))

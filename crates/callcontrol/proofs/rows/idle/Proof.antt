@@ -15,7 +15,7 @@ use Rattle.callcontrol.proofs.rows.idle.Tie as tie
 
 -- the tags of the events that the situation has no row for
 abbrev others : List ℕ
-others = 1 ∷ 2 ∷ 3 ∷ 4 ∷ 5 ∷ 6 ∷ 7 ∷ 8 ∷ 10 ∷ 11 ∷ 12 ∷ 13 ∷ 14 ∷ 15 ∷ 16 ∷ 17 ∷ 18 ∷ 19 ∷ 20 ∷ 21 ∷ 22 ∷ 23 ∷ []
+others = 1 ∷ 2 ∷ 3 ∷ 4 ∷ 5 ∷ 6 ∷ 7 ∷ 9 ∷ 10 ∷ 11 ∷ 12 ∷ 13 ∷ 14 ∷ 15 ∷ 16 ∷ 17 ∷ 18 ∷ 19 ∷ 20 ∷ 21 ∷ 22 ∷ []
 
 no-row : (call : Call) (event : Event) → T (hasTag others event) → noRow call ≡ idle call event
 unfolding idle
@@ -23,7 +23,6 @@ no-row call (Event.SetupRequest x y z v) t = absurd t
 no-row call Event.SetupResponse t = refl
 no-row call Event.ReleaseRequest t = refl
 no-row call (Event.TxRequest x) t = refl
-no-row call (Event.ModifyRequest x) t = refl
 no-row call (Event.DCallProceeding x) t = refl
 no-row call (Event.DAlert x) t = refl
 no-row call (Event.DConnect x y z w v) t = refl

@@ -13,14 +13,13 @@ use Rattle.callcontrol.proofs.step.named_in.Tie as tie
 
 -- the tags of the events that name no call
 abbrev others : List ℕ
-others = 0 ∷ 1 ∷ 2 ∷ 3 ∷ 4 ∷ 9 ∷ 19 ∷ 20 ∷ 21 ∷ 22 ∷ 23 ∷ []
+others = 0 ∷ 1 ∷ 2 ∷ 3 ∷ 8 ∷ 18 ∷ 19 ∷ 20 ∷ 21 ∷ 22 ∷ []
 
 unnamed : (event : Event) → T (hasTag others event) → Named.NoCall ≡ namedIn event
 unnamed (Event.SetupRequest x y z v) t = refl
 unnamed Event.SetupResponse t = refl
 unnamed Event.ReleaseRequest t = refl
 unnamed (Event.TxRequest x) t = refl
-unnamed (Event.ModifyRequest x) t = refl
 unnamed (Event.DCallProceeding x) t = absurd t
 unnamed (Event.DAlert x) t = absurd t
 unnamed (Event.DConnect x y z w v) t = absurd t

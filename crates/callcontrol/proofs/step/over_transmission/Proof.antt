@@ -14,14 +14,13 @@ use Rattle.callcontrol.proofs.step.over_transmission.Tie as tie
 
 -- the tags of the other events
 abbrev others : List ℕ
-others = 0 ∷ 1 ∷ 2 ∷ 3 ∷ 4 ∷ 5 ∷ 6 ∷ 7 ∷ 8 ∷ 9 ∷ 11 ∷ 12 ∷ 13 ∷ 14 ∷ 15 ∷ 16 ∷ 17 ∷ 18 ∷ 19 ∷ 20 ∷ 21 ∷ 22 ∷ 23 ∷ []
+others = 0 ∷ 1 ∷ 2 ∷ 3 ∷ 4 ∷ 5 ∷ 6 ∷ 7 ∷ 8 ∷ 10 ∷ 11 ∷ 12 ∷ 13 ∷ 14 ∷ 15 ∷ 16 ∷ 17 ∷ 18 ∷ 19 ∷ 20 ∷ 21 ∷ 22 ∷ []
 
 others-pass : (call : Call) (event : Event) → T (hasTag others event) → false ≡ overTransmission call event
 others-pass call (Event.SetupRequest x y z v) t = refl
 others-pass call Event.SetupResponse t = refl
 others-pass call Event.ReleaseRequest t = refl
 others-pass call (Event.TxRequest x) t = refl
-others-pass call (Event.ModifyRequest x) t = refl
 others-pass call (Event.DCallProceeding x) t = refl
 others-pass call (Event.DAlert x) t = refl
 others-pass call (Event.DConnect x y z w v) t = refl

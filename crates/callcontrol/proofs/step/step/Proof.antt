@@ -15,11 +15,12 @@ use Rattle.callcontrol.proofs.step.step.Statement.{statement}
 use Rattle.callcontrol.proofs.step.step.Tie as tie
 
 -- bytes that are no event are refused with the reader's number and place
-unread-refuses : (r : EventRead) (c : Call) (b : List ℕ) → OneOf (1 ∷ 2 ∷ 3 ∷ []) (Declared.tagOf event-read.the-type r)
+unread-refuses : (r : EventRead) (c : Call) (b : List ℕ) → OneOf (1 ∷ 2 ∷ 3 ∷ 4 ∷ []) (Declared.tagOf event-read.the-type r)
     → refusalAt (answerNumber (unreadAs r)) (placeIn r) c b ≡ whenRead (asEventRead r) c b
-unread-refuses (EventRead.Is e) c b k = absurd (miss (1 ∷ 2 ∷ 3 ∷ []) 0 tt k)
+unread-refuses (EventRead.Is e) c b k = absurd (miss (1 ∷ 2 ∷ 3 ∷ 4 ∷ []) 0 tt k)
 unread-refuses EventRead.BadLength c b k = refl
 unread-refuses EventRead.UnknownKind c b k = refl
+unread-refuses EventRead.Retired c b k = refl
 unread-refuses (EventRead.BadBody place) c b k = refl
 
 pub step-spec : {M : Type 1} → statement M

@@ -17,11 +17,12 @@ use Rattle.console.proofs.console.console_step.Statement.{statement}
 use Rattle.console.proofs.console.console_step.Tie as tie
 
 -- bytes that are no event are refused with the reader's number
-unread-refuses : (r : EventRead) (calls : List Call) (place : ℕ) (b : List ℕ) → OneOf (1 ∷ 2 ∷ 3 ∷ []) (Declared.tagOf event-read.the-type r)
+unread-refuses : (r : EventRead) (calls : List Call) (place : ℕ) (b : List ℕ) → OneOf (1 ∷ 2 ∷ 3 ∷ 4 ∷ []) (Declared.tagOf event-read.the-type r)
     → refusesAt (answerNumber (unreadAs r)) (placeIn r) calls b ≡ whenRead (asEventRead r) calls place b
-unread-refuses (EventRead.Is e) calls place b k = absurd (miss (1 ∷ 2 ∷ 3 ∷ []) 0 tt k)
+unread-refuses (EventRead.Is e) calls place b k = absurd (miss (1 ∷ 2 ∷ 3 ∷ 4 ∷ []) 0 tt k)
 unread-refuses EventRead.BadLength calls place b k = refl
 unread-refuses EventRead.UnknownKind calls place b k = refl
+unread-refuses EventRead.Retired calls place b k = refl
 unread-refuses (EventRead.BadBody p) calls place b k = refl
 
 table-sound-requires : tie.Need-table-sound-requires

@@ -1,4 +1,5 @@
 -- The head has a kind or is refused, and the rest is the reader of that kind.
+use mathlib.Core.Path.{refl}
 use borrow.Author.Needs.{needs}
 use Rattle.records.specs.Messages.{messages}
 use Rattle.records.proofs.Rows.{headless, headed, of-all}
@@ -14,4 +15,4 @@ read-message-spec =
     (λ c. search needs)
     (λ c. headless messages _ (rw (c .enum-told .given .1) at (c .before .before .kind-in .ensures)))
     (λ c κs. search needs)
-    (λ c. headed messages _ (rw (c .before .before .kind .given .1) at (c .before .before .before .before .kind-in .ensures)) (of-all messages _ _ (c .read-network .ensures))))
+    (λ c. headed messages _ (rw (c .before .before .kind .given .1) at (c .before .before .before .before .kind-in .ensures)) (of-all messages _ _ refl (c .read-network .ensures))))
