@@ -10,7 +10,9 @@
  * where the length is 0. docs/HOST.md has what a host must do, and what each answer asks of it.
  *
  * The library is an archive for each product, and each function says at its end which have it:
- * libhost.a for a set with one call, and libhost_console.a, linked beside it, for a console.
+ * libhost.a for a set with one call, and libhost_console.a, linked beside it, for a console;
+ * libhost_small.a, in place of libhost.a, for a set with little room: fresh and step alone, with the
+ * same results in about half the code.
  *
  * Every function but callcontrol_pieces_next returns answer * 2^24 + place * 2^16 + count of bytes
  * written. With answer 4 of a reader the place says what is wrong: the offset of the first bad field
@@ -252,7 +254,7 @@ enum callcontrol_message_kind {
  * Writes the fresh record (IDLE) and counts 22; answer 1 and nothing written if record_len is
  * not 22.
  */
-uint32_t callcontrol_fresh(uint8_t *record, size_t record_len); /* in libhost.a */
+uint32_t callcontrol_fresh(uint8_t *record, size_t record_len); /* in libhost.a, libhost_small.a */
 
 /*
  * Takes one event: rewrites the record, writes the messages it orders to the front of out, one
@@ -262,7 +264,7 @@ uint32_t callcontrol_fresh(uint8_t *record, size_t record_len); /* in libhost.a 
  */
 uint32_t callcontrol_step(uint8_t *record, size_t record_len,
                           const uint8_t *event, size_t event_len,
-                          uint8_t *out, size_t out_len); /* in libhost.a */
+                          uint8_t *out, size_t out_len); /* in libhost.a, libhost_small.a */
 
 /*
  * Writes eight fresh records and counts 176; answer 1 and nothing written if table_len is not 176.

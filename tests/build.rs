@@ -10,6 +10,9 @@ use std::{env, fs, process};
 /// The archives that the tests link, all into one program: each has names of its own.
 const ARCHIVES: [&str; 3] = ["host", "host_console", "host_test"];
 
+/// The archive with the second engine, whose entries have the names of the first's.
+const SMALL: &str = "host_small";
+
 fn main() {
     println!("cargo:rustc-check-cfg=cfg(bridged)");
     println!("cargo:rerun-if-env-changed=CALLCONTROL_LIB_DIR");
@@ -23,6 +26,8 @@ fn main() {
     let archives = ARCHIVES.map(|name| archive(&folder, name));
     let paths = archives.each_ref().map(|archive| archive.display().to_string());
     println!("cargo:rustc-env=CALLCONTROL_ARCHIVES={}", paths.join(":"));
+    let small = archive(&folder, SMALL);
+    println!("cargo:rustc-env=CALLCONTROL_SMALL_ARCHIVE={}", small.display());
 
     build_yardstick(&manifest);
     let own = machine_of(&archives[0]) == this_machine();
@@ -40,16 +45,37 @@ fn main() {
         for name in ARCHIVES {
             println!("cargo:rustc-link-lib=static={name}");
         }
+        let beside = renamed("objcopy", &small);
+        let folder = beside.parent().expect("a file lies in a folder");
+        println!("cargo:rustc-link-search=native={}", folder.display());
+        println!("cargo:rustc-link-lib=static={SMALL}_renamed");
     } else {
         for tool in [cc, emulator] {
             if !tool.is_empty() && Command::new(tool).arg("--version").output().is_err() {
                 stop(&format!("{tool} is missing.\n  {}", what_to_install(own)));
             }
         }
-        let program = build_bridge(cc, &manifest, &archives, own);
+        let all = archives.iter().cloned().chain([renamed(&cc.replace("gcc", "objcopy"), &small)]);
+        let program = build_bridge(cc, &manifest, &all.collect::<Vec<_>>(), own);
         println!("cargo:rustc-cfg=bridged");
         println!("cargo:rustc-env=CALLCONTROL_BRIDGE_PROGRAM={}", program.display());
     }
+}
+
+/// The archive of the second engine with `small_` before each of its names, so that a program can link it beside the other.
+fn renamed(objcopy: &str, archive: &Path) -> PathBuf {
+    let folder = PathBuf::from(env::var_os("OUT_DIR").expect("cargo sets it"));
+    let renamed = folder.join(format!("lib{SMALL}_renamed.a"));
+    let mut command = Command::new(objcopy);
+    for name in ["callcontrol_fresh", "callcontrol_step"] {
+        command.arg("--redefine-sym").arg(format!("{name}=small_{name}"));
+    }
+    let status = command.arg(archive).arg(&renamed).status();
+    if !status.is_ok_and(|status| status.success()) {
+        stop(&format!("{objcopy} does not rename the entries of {}.", archive.display()));
+    }
+    println!("cargo:rustc-env=CALLCONTROL_SMALL_RENAMED={}", renamed.display());
+    renamed
 }
 
 /// An archive of this name in this folder.

@@ -2,12 +2,15 @@
 # Compares the code size of the library with that of the accounts: the Rust one built for size, and
 # the one in plain C (tests/yardstick) at -Os and -O3.
 #
+# The second engine (libhost_small.a) stands beside the first, and at the end code and constants together and
+# the largest functions of each.
+#
 # All are linked the same way into a C program that names functions, unused sections dropped; what a
 # program that names none of them already has is subtracted. Ratios are the library's .text to it.
 set -e
 here=$(cd "$(dirname "$0")" && pwd)
 folder=${CALLCONTROL_LIB_DIR:-$here/../target/staticlib}
-for archive in host host_console; do
+for archive in host host_console host_small; do
     if [ ! -f "$folder/lib$archive.a" ]; then
         echo "$folder/lib$archive.a is missing: run \`tests/archives.sh build\` first" >&2
         exit 1
@@ -89,6 +92,22 @@ in_c 'the six entries for one call' one_call library
 link step step_alone "$folder/libhost.a"
 row 'library, callcontrol_step alone' step_alone
 in_c 'step alone' step step_alone
+link step second "$folder/libhost_small.a"
+row 'second engine, callcontrol_step alone' second
+in_c 'step alone, to the second engine' step second
 link console console "$folder/libhost_console.a"
 row "library, the console's two entries" console
 in_c "the console's two entries" console console
+
+echo
+all() { echo $(($(section "$1" .text) + $(section "$1" .rodata) - $(section none .text) - $(section none .rodata))); }
+printf '%-44s%10s%8s\n' 'a program that only steps, code and constants' bytes ratio
+for program in step_alone second step_c-Os; do
+    awk -v what="$program" -v own="$(all second)" -v it="$(all $program)" 'BEGIN {
+        name["step_alone"] = "first engine"; name["second"] = "second engine"; name["step_c-Os"] = "plain C -Os"
+        printf "%-44s%10d%8.3f\n", name[what], it, own / it }'
+done
+for engine in step_alone second; do
+    ${cross}nm -S --size-sort -t d "$work/$engine" | awk -v engine="$engine" \
+        'tolower($3) == "t" && $4 ~ /callcontrol|::/ { printf "  %-42s%10d\n", (engine == "second" ? "second: " : "first: ") $4, $2 }'
+done

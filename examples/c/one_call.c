@@ -158,10 +158,6 @@ static void play(uint8_t *call, unsigned int number, const unsigned long *values
     /* A real host would send U-PDUs, set timers and tell its user here. */
     for (size_t at = 0; at < callcontrol_count_of(result);) {
         size_t len = (size_t)little_endian(out + at, 2);
-        if (callcontrol_check_message(out + at, len) != CALLCONTROL_TAKEN) {
-            fprintf(stderr, "the library wrote something that is no message\n");
-            exit(EXIT_FAILURE);
-        }
         printf("    ");
         print_record(out + at);
         at += len;

@@ -19,6 +19,10 @@
 uint32_t callcontrol_test_record_in(uint8_t place, uint8_t size, const uint8_t *carry, size_t carry_len,
                                     const uint8_t *piece, size_t piece_len, uint8_t *out,
                                     size_t out_len);
+/* The second engine's entries, which build.rs gives names of their own. */
+uint32_t small_callcontrol_fresh(uint8_t *record, size_t record_len);
+uint32_t small_callcontrol_step(uint8_t *record, size_t record_len, const uint8_t *event,
+                                size_t event_len, uint8_t *out, size_t out_len);
 
 enum { RECORD, INPUT, OUT, SLICES };
 enum { IN_PLACE, AT_START, AT_END };
@@ -125,6 +129,11 @@ static uint32_t call(unsigned function, uint32_t number, uint8_t *const at[], co
     case 31:
         return callcontrol_test_record_in((uint8_t)number, (uint8_t)(number >> 8), at[RECORD],
                                           len[RECORD], at[INPUT], len[INPUT], at[OUT], len[OUT]);
+    case 200:
+        return small_callcontrol_fresh(at[RECORD], len[RECORD]);
+    case 201:
+        return small_callcontrol_step(at[RECORD], len[RECORD], at[INPUT], len[INPUT], at[OUT],
+                                      len[OUT]);
     }
     fail("no such function");
     return 0;

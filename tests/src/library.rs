@@ -14,6 +14,8 @@ pub mod console;
 mod direct;
 #[cfg(not(bridged))]
 mod pieces;
+#[cfg(not(bridged))]
+pub mod small;
 
 #[cfg(bridged)]
 use bridge as way;
@@ -33,6 +35,12 @@ pub const BRIDGED: bool = cfg!(bridged);
 pub fn archives() -> impl Iterator<Item = &'static str> {
     env!("CALLCONTROL_ARCHIVES").split(':')
 }
+
+/// The archive with the second engine, whose names are those of the first.
+pub const SMALL_ARCHIVE: &str = env!("CALLCONTROL_SMALL_ARCHIVE");
+
+/// The same with `small_` before each name, for a program that links both.
+pub const SMALL_RENAMED: &str = env!("CALLCONTROL_SMALL_RENAMED");
 
 /// Splits a result into answer and count of bytes written.
 pub fn split(word: u32) -> (u32, u32) {

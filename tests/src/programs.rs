@@ -19,12 +19,24 @@ const EMULATOR: &str = env!("CALLCONTROL_EMULATOR");
 /// Compiles a source of this repository and links it with the library, as C programs are linked.
 /// Gives what the compiler said.
 pub fn build(compiler: &str, arguments: &[&str], source: &str, program: &Path) -> String {
+    let archives: Vec<_> = crate::library::archives().collect();
+    build_with(&archives, compiler, arguments, source, program)
+}
+
+/// The same with other archives.
+pub fn build_with(
+    archives: &[&str],
+    compiler: &str,
+    arguments: &[&str],
+    source: &str,
+    program: &Path,
+) -> String {
     let object = program.with_extension("o");
     let mut compile = Command::new(compiler);
     compile.args(arguments).arg("-I").arg(root().join("include"));
     compile.arg("-c").arg(root().join(source)).arg("-o").arg(&object);
     let mut link = Command::new(CC);
-    link.arg(object).args(crate::library::archives()).arg("-o").arg(program);
+    link.arg(object).args(archives).arg("-o").arg(program);
     if !EMULATOR.is_empty() {
         // So that the emulator need not find the libraries of its machine.
         link.arg("-static");
@@ -43,9 +55,16 @@ pub fn build(compiler: &str, arguments: &[&str], source: &str, program: &Path) -
 
 /// Builds a program of `bridge/` that measures stack, hands it what it plays, and gives what it prints.
 pub fn stack_used(source: &str, tape: &[u8]) -> usize {
+    let archives: Vec<_> = crate::library::archives().collect();
+    stack_used_with(&archives, source, tape)
+}
+
+/// The same with other archives.
+pub fn stack_used_with(archives: &[&str], source: &str, tape: &[u8]) -> usize {
     let name = Path::new(source).file_stem().expect("a file").to_string_lossy();
-    let program = env::temp_dir().join(format!("{name}-{}", std::process::id()));
-    build(CC, &["-std=gnu11", "-O2", "-Wall", "-Wextra", "-Werror"], source, &program);
+    let program = env::temp_dir().join(format!("{name}-{}-{}", archives.len(), std::process::id()));
+    let strict = ["-std=gnu11", "-O2", "-Wall", "-Wextra", "-Werror"];
+    build_with(archives, CC, &strict, source, &program);
     let ran = run_within(run(&program), Some(tape), &LIMITS);
     for file in [&program, &program.with_extension("o")] {
         let _ = std::fs::remove_file(file);
@@ -58,11 +77,18 @@ pub fn stack_used(source: &str, tape: &[u8]) -> usize {
 pub fn code_of(archive: &str, functions: &[&str]) -> usize {
     let is_it = |path: &&str| path.ends_with(&format!("/lib{archive}.a"));
     let archive = crate::library::archives().find(is_it).expect("an archive of the tests");
-    text_of(&[], archive).abs_diff(text_of(functions, archive))
+    let [code, none] = [functions, &[]].map(|names| sections_of(names, archive)[0]);
+    none.abs_diff(code)
 }
 
-/// The bytes of code in a program that names these functions and calls none.
-fn text_of(functions: &[&str], archive: &str) -> usize {
+/// The same of an archive at some path, its constants counted too.
+pub fn code_and_constants_of(archive: &str, functions: &[&str]) -> usize {
+    let [all, none] = [functions, &[]].map(|names| sections_of(names, archive).iter().sum());
+    usize::abs_diff(none, all)
+}
+
+/// The bytes of code and of constants in a program that names these functions and calls none.
+fn sections_of(functions: &[&str], archive: &str) -> [usize; 2] {
     let declared = functions.iter().map(|name| format!("void {name}(void);\n"));
     let named = functions.iter().map(|name| format!("(void *){name}, "));
     let source = format!(
@@ -70,7 +96,9 @@ fn text_of(functions: &[&str], archive: &str) -> usize {
         declared.collect::<String>(),
         named.collect::<String>()
     );
-    let program = env::temp_dir().join(format!("named-{}-{}", functions.len(), std::process::id()));
+    let name = Path::new(archive).file_stem().expect("a file").to_string_lossy();
+    let program =
+        env::temp_dir().join(format!("{name}-{}-{}", functions.len(), std::process::id()));
     let file = program.with_extension("c");
     std::fs::write(&file, source).expect("a file for the program");
     let mut link = Command::new(CC);
@@ -85,9 +113,13 @@ fn text_of(functions: &[&str], archive: &str) -> usize {
         let _ = std::fs::remove_file(file);
     }
     let said = String::from_utf8_lossy(&said.stdout).into_owned();
-    let text =
-        said.lines().find_map(|line| line.strip_prefix(".text ")).expect("a section of code");
-    text.split_whitespace().next().and_then(|bytes| bytes.parse().ok()).expect("its bytes")
+    [".text ", ".rodata "].map(|section| {
+        // A program without constants has no such section.
+        let line = said.lines().find_map(|line| line.strip_prefix(section));
+        line.map_or(0, |line| {
+            line.split_whitespace().next().and_then(|bytes| bytes.parse().ok()).expect("its bytes")
+        })
+    })
 }
 
 /// The bridge, under an emulator with these options; none where there is no emulator.

@@ -34,6 +34,9 @@ pub enum Function {
     // Of the tests' own archive: carry as the record, piece as the input; beside them the place and, above
     // its 8 bits, the size that PiecesNext gave.
     RecordIn = 31,
+    // Fresh and Step of the archive with the second engine.
+    SmallFresh = 200,
+    SmallStep = 201,
 }
 
 impl Function {
@@ -55,7 +58,18 @@ impl Function {
         Function::Play,
         Function::ConsolePlay,
         Function::RecordIn,
+        Function::SmallFresh,
+        Function::SmallStep,
     ];
+
+    /// The same of the second engine, where it has it.
+    pub fn of_second_engine(self) -> Option<Function> {
+        match self {
+            Function::Fresh => Some(Function::SmallFresh),
+            Function::Step => Some(Function::SmallStep),
+            _ => None,
+        }
+    }
 
     /// Splits a result of this function into answer and what is counted.
     pub fn split(self, word: u32) -> (u32, u32) {
@@ -226,6 +240,10 @@ pub fn function(frame: &[u8]) -> Function {
     let number = frame[4];
     let known = Function::ALL.iter().find(|&&known| known as u8 == number);
     *known.unwrap_or_else(|| panic!("no function has number {number}"))
+}
+
+pub fn set_function(frame: &mut [u8], function: Function) {
+    frame[4] = function as u8;
 }
 
 /// What was handed in beside the slices.

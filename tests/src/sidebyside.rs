@@ -1,5 +1,5 @@
 //! Calls of the library beside what should come of them: the words must be equal, the lent bytes
-//! must be equal, and no byte around them may have changed.
+//! must be equal, and no byte around them may have changed. What both engines have is asked of both.
 
 use crate::account::{boundary, RECORD_LEN};
 use crate::library;
@@ -87,6 +87,14 @@ impl Queue {
             "a refusal that counts or changes bytes is expected of {}",
             request::describe(&self.sent[start..])
         );
+        // The second engine must leave the same.
+        if let Some(function) = request.function.of_second_engine() {
+            let end = self.sent.len();
+            Request { function, ..*request }.push(&mut self.sent);
+            self.said.extend_from_within(start..end);
+            request::set_function(&mut self.said[end..], function);
+            self.waiting += 1;
+        }
         if !library::BRIDGED {
             self.compare();
         }

@@ -2,7 +2,7 @@
 //! length, kind, body size or field out of range gives its answer, with 4 its place, and changes no
 //! byte.
 
-use callcontrol_tests::account::boundary;
+use callcontrol_tests::account::{boundary, Call, State};
 use callcontrol_tests::generate::{self, Bytes, Random};
 use callcontrol_tests::library;
 use callcontrol_tests::request::{Function, Request};
@@ -231,6 +231,14 @@ impl Side {
     fn expect(&self, queue: &mut Queue, bytes: &[u8], expected: Expected) {
         let filler = 0xC3u8.wrapping_add(bytes.len() as u8);
         self.expect_of_reader(queue, bytes, expected);
+        // The second engine reads events by a table of its own: so both take them as the account does.
+        if self.check == Function::CheckEvent {
+            for state in State::ALL {
+                let identifier = u16::from(state != State::Idle);
+                let call = Call { state, identifier, ..Call::FRESH };
+                queue.step(&call.pack(), bytes, 64, filler);
+            }
+        }
         let longest = if expected == TAKEN { bytes.len() + 2 } else { 12 };
         for out_len in 0..=longest {
             queue.check(&Request::copy(self.copy, bytes, out_len, filler), |_, bytes, out| {

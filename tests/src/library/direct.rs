@@ -2,6 +2,7 @@
 
 use super::bank;
 use super::console;
+use super::small;
 use crate::request::{self, Function, Place, BLOCK, INPUT, OUT, RECORD};
 use std::ffi::c_void;
 
@@ -133,6 +134,8 @@ fn call(function: Function, number: u32, [record, input, out]: [&mut [u8]; 3]) -
             step(record, event, lent)
         }),
         Function::ConsolePlay => play(record, input, out, number, true, console::step),
+        Function::SmallFresh => small::fresh(record),
+        Function::SmallStep => small::step(record, input, out),
     }
 }
 

@@ -2,8 +2,10 @@
 //! under the emulator, which logs each instruction, or under valgrind, which counts them.
 
 use callcontrol_tests::account::{boundary, Call};
+#[cfg(not(bridged))]
+use callcontrol_tests::library;
 use callcontrol_tests::programs;
-use callcontrol_tests::request::Request;
+use callcontrol_tests::request::{Function, Request};
 use callcontrol_tests::tape::{tape, OUT_LEN};
 use std::io::{BufRead, BufReader, Write};
 use std::process::{Command, Stdio};
@@ -11,18 +13,22 @@ use std::process::{Command, Stdio};
 const STEPS: usize = 2000;
 
 pub fn main() {
-    let (mut steps, mut refusals) = (Vec::new(), Vec::new());
+    let (mut steps, mut second, mut refusals) = (Vec::new(), Vec::new(), Vec::new());
     let mut record = Call::FRESH.pack();
     for event in tape().events().take(STEPS) {
-        Request::step(&record, event, OUT_LEN, 0).push(&mut steps);
+        let step = Request::step(&record, event, OUT_LEN, 0);
+        step.push(&mut steps);
+        Request { function: Function::SmallStep, ..step }.push(&mut second);
         // What any call takes: one that is refused at once.
         Request::fresh(&[], 0).push(&mut refusals);
         boundary::step(&mut record, event, &mut [0; OUT_LEN]);
     }
-    match (count(&steps), count(&refusals)) {
-        (Some(steps), Some(refusals)) => {
-            let each = steps.saturating_sub(refusals) / STEPS;
-            println!("{each} instructions per step, over {STEPS} steps of the tape");
+    match (count(&steps), count(&second), count(&refusals)) {
+        (Some(steps), Some(second), Some(refusals)) => {
+            let [each, second] = [steps, second].map(|all| all.saturating_sub(refusals) / STEPS);
+            println!(
+                "{each} instructions per step, {second} by the second engine, over {STEPS} steps of the tape"
+            );
         }
         _ => {
             println!("Instructions are not counted: that takes an emulator that logs, or valgrind.")
@@ -45,7 +51,9 @@ fn ways() -> Vec<(Command, fn(&str) -> usize)> {
 #[cfg(not(bridged))]
 fn ways() -> Vec<(Command, fn(&str) -> usize)> {
     let program = std::path::Path::new(env!("OUT_DIR")).join("counted");
-    programs::build(programs::CC, &["-std=c11", "-O2"], "tests/bridge/bridge.c", &program);
+    let archives: Vec<_> = library::archives().chain([library::SMALL_RENAMED]).collect();
+    let options = ["-std=c11", "-O2"];
+    programs::build_with(&archives, programs::CC, &options, "tests/bridge/bridge.c", &program);
     let mut command = Command::new("valgrind");
     command.args(["--tool=callgrind", "--callgrind-out-file=/dev/null"]).arg(program);
     let collected = |line: &str| {

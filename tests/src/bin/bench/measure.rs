@@ -46,7 +46,7 @@ struct Sum {
     record: [u8; RECORD_LEN],
 }
 
-// Two loops that differ only in the function called: called directly in both, as a host would.
+// Loops that differ only in the function called: called directly in both, as a host would.
 
 fn run_library(tape: &Tape) -> Sum {
     let mut record = Call::FRESH.pack();
@@ -54,6 +54,20 @@ fn run_library(tape: &Tape) -> Sum {
     let mut words = 0u64;
     for event in tape.events() {
         words = words.wrapping_mul(31).wrapping_add(u64::from(library::step(
+            &mut record,
+            event,
+            black_box(&mut out),
+        )));
+    }
+    Sum { words, record }
+}
+
+fn run_second(tape: &Tape) -> Sum {
+    let mut record = Call::FRESH.pack();
+    let mut out = [0u8; OUT_LEN];
+    let mut words = 0u64;
+    for event in tape.events() {
+        words = words.wrapping_mul(31).wrapping_add(u64::from(library::small::step(
             &mut record,
             event,
             black_box(&mut out),
@@ -127,14 +141,15 @@ pub fn main() {
     println!("tape: {EVENTS} events from fresh, by answer 0..8: {answers:?}");
 
     type Run = fn(&Tape) -> Sum;
-    let runs: [(&str, Run); 5] = [
+    let runs: [(&str, Run); 6] = [
         ("library", run_library),
         ("account, packed record", run_account),
         ("account, record kept as a struct", run_account_struct),
         ("plain C, -O3", run_quick_c),
         ("plain C, -Os", run_small_c),
+        ("second engine", run_second),
     ];
-    let mut best = [f64::INFINITY; 5];
+    let mut best = [f64::INFINITY; 6];
     let expected = run_account(&tape);
     for _ in 0..ROUNDS {
         for (place, (name, run)) in runs.iter().enumerate() {
@@ -153,14 +168,17 @@ pub fn main() {
     println!("  {:<34}{:>8.2}", "ratio library / account, struct", best[0] / best[2]);
     println!("  {:<34}{:>8.2}", "ratio library / plain C, -O3", best[0] / best[3]);
     println!("  {:<34}{:>8.2}", "ratio library / plain C, -Os", best[0] / best[4]);
+    println!("  {:<34}{:>8.2}", "ratio second engine / library", best[5] / best[0]);
+    println!("  {:<34}{:>8.2}", "ratio second engine / plain C, -Os", best[5] / best[4]);
     readers(&tape);
 
     println!("stack of one step, the most over the tape:");
-    let steps: [(&str, PackedStep); 4] = [
+    let steps: [(&str, PackedStep); 5] = [
         ("library", library::callcontrol_step),
         ("account, packed record", account_step),
         ("plain C, -O3", yardstick::quick::bare_step),
         ("plain C, -Os", yardstick::small::bare_step),
+        ("second engine", library::small::small_callcontrol_step),
     ];
     for (name, step) in steps {
         match stack::deepest(&tape, step) {

@@ -1,0 +1,11 @@
+pub mod Answers
+pub mod Carrying
+pub mod Deciding
+pub mod Entries
+pub mod Engines
+pub mod Letters
+pub mod Places
+pub mod Same
+pub mod Scan
+pub mod Slots
+pub mod Storing
