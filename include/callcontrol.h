@@ -12,7 +12,7 @@
  * The library is an archive for each product, and each function says at its end which have it:
  * libhost.a for a set with one call, and libhost_console.a, linked beside it, for a console;
  * libhost_small.a, in place of libhost.a, for a set with little room: fresh and step alone, with the
- * same results in about half the code.
+ * same results in about half the code; libhost_direct.a, which needs no other, for direct mode.
  *
  * Every function but callcontrol_pieces_next returns answer * 2^24 + place * 2^16 + count of bytes
  * written. With answer 4 of a reader the place says what is wrong: the offset of the first bad field
@@ -430,6 +430,95 @@ uint32_t callcontrol_bank_start(uint8_t *bank, size_t bank_len,
  */
 uint32_t callcontrol_bank_advance(uint8_t *bank, size_t bank_len, uint32_t reading,
                                   uint16_t *due, size_t due_len); /* in libhost.a */
+
+/* ---- Direct mode --------------------------------------------------------------------------- */
+
+/*
+ * The outgoing call between sets without a network, with presence check: ETSI EN 300 396-3, clause
+ * 6.2.2.1. It has a record, kinds and answers of its own; its timers DT303 and DT311 are not the
+ * network's T303 and T311. Its records have the layout of all others.
+ */
+
+#define CALLCONTROL_DIRECT_RECORD_SIZE 7u   /* bytes of a record */
+#define CALLCONTROL_DIRECT_EVENT_MAX 7u     /* bytes of the longest event */
+#define CALLCONTROL_DIRECT_MESSAGE_MAX 6u   /* bytes of the longest message */
+#define CALLCONTROL_DIRECT_STEP_MAX 27u     /* the most one step writes */
+#define CALLCONTROL_DIRECT_ATTEMPTS_MAX 15u /* m; the least is 1 */
+
+/* Answers 0 to 4 and 7 as above, and these, in the order 1 2 3 4 60 61 7. */
+enum callcontrol_direct_answer {
+    CALLCONTROL_DIRECT_BEYOND = 60, /* attempts out of 1 to 15, or lowest above target */
+    CALLCONTROL_DIRECT_NO_ROW = 61  /* nothing is foreseen for this event in this state */
+};
+
+/* Offsets of a record's fields, one byte each. */
+enum callcontrol_direct_field {
+    CALLCONTROL_DIRECT_AT_STATE = 0,
+    CALLCONTROL_DIRECT_AT_TARGET = 1,
+    CALLCONTROL_DIRECT_AT_LOWEST = 2,
+    CALLCONTROL_DIRECT_AT_LIMIT = 3, /* attempts that the request allows */
+    CALLCONTROL_DIRECT_AT_USED = 4,  /* attempts made */
+    CALLCONTROL_DIRECT_AT_DT303 = 5, /* timers, each 0 or 1 */
+    CALLCONTROL_DIRECT_AT_DT311 = 6
+};
+
+enum callcontrol_direct_state {
+    CALLCONTROL_DIRECT_IDLE = 0,
+    CALLCONTROL_DIRECT_PRESENCE_CHECK = 1,
+    CALLCONTROL_DIRECT_ACTIVE = 2
+};
+
+enum callcontrol_direct_report { /* v */
+    CALLCONTROL_DIRECT_SENT = 0,
+    CALLCONTROL_DIRECT_BUSY = 1,
+    CALLCONTROL_DIRECT_UNKNOWN = 2
+};
+
+enum callcontrol_direct_timer { /* n, u16 */
+    CALLCONTROL_DT303 = 303,
+    CALLCONTROL_DT311 = 311
+};
+
+/* t a grade of service (higher is better), l the lowest that is accepted, m attempts: any byte. */
+enum callcontrol_direct_event_kind {
+    CALLCONTROL_DIRECT_SETUP_REQUEST = 0x0801, /* t l m */
+    CALLCONTROL_DMA_REPORT = 0x0802,           /* v */
+    CALLCONTROL_DM_CONNECT = 0x0803,           /* t */
+    CALLCONTROL_DM_DISCONNECT = 0x0804,
+    CALLCONTROL_DIRECT_EXPIRY = 0x0805 /* n */
+};
+
+enum callcontrol_direct_message_kind {
+    CALLCONTROL_DM_SETUP_PRES = 0x0901,  /* t l */
+    CALLCONTROL_DM_CONNECT_ACK = 0x0902, /* t */
+    CALLCONTROL_DM_RELEASE = 0x0903,
+    CALLCONTROL_DIRECT_STOP = 0x0911,          /* n */
+    CALLCONTROL_DIRECT_START = 0x0912,         /* n */
+    CALLCONTROL_DIRECT_CONFIGURE = 0x0913,     /* t */
+    CALLCONTROL_DIRECT_SETUP_CONFIRM = 0x0921, /* t */
+    CALLCONTROL_DIRECT_RELEASE_INDICATION = 0x0922
+};
+
+/* Writes the fresh record, and counts 7; answer 1 and nothing written if record_len is not 7. */
+uint32_t callcontrol_direct_fresh(uint8_t *record, size_t record_len); /* in libhost_direct.a */
+
+/*
+ * One event: the next record is in record and the messages at the front of out, or, with any answer
+ * but 0, no byte has changed. 27 bytes are always enough for out.
+ */
+uint32_t callcontrol_direct_step(uint8_t *record, size_t record_len,
+                                 const uint8_t *event, size_t event_len,
+                                 uint8_t *out, size_t out_len); /* in libhost_direct.a */
+
+/* What reading one event or one message answers: 0, 2, 3 or 4, with the place. */
+uint32_t callcontrol_direct_check_event(const uint8_t *bytes, size_t len);   /* in libhost_direct.a */
+uint32_t callcontrol_direct_check_message(const uint8_t *bytes, size_t len); /* in libhost_direct.a */
+
+/* Reads one event or one message, and writes it back to the front of out; 7 if it does not fit. */
+uint32_t callcontrol_direct_copy_event(const uint8_t *bytes, size_t len,
+                                       uint8_t *out, size_t out_len); /* in libhost_direct.a */
+uint32_t callcontrol_direct_copy_message(const uint8_t *bytes, size_t len,
+                                         uint8_t *out, size_t out_len); /* in libhost_direct.a */
 
 #ifdef __cplusplus
 }

@@ -8,7 +8,7 @@ use std::process::Command;
 use std::{env, fs, process};
 
 /// The archives that the tests link, all into one program: each has names of its own.
-const ARCHIVES: [&str; 3] = ["host", "host_console", "host_test"];
+const ARCHIVES: [&str; 4] = ["host", "host_console", "host_direct", "host_test"];
 
 /// The archive with the second engine, whose entries have the names of the first's.
 const SMALL: &str = "host_small";

@@ -1,0 +1,4 @@
+pub mod Packing
+pub mod Entries
+pub mod Laws
+pub mod Runs

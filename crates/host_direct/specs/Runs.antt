@@ -1,0 +1,38 @@
+-- A run as a set makes it: callcontrol_direct_fresh once, then callcontrol_direct_step again and again over the same 7 bytes. It is the run of
+-- the step over the records that the bytes hold, so that what is proved of every run (crate direct) is said of what a set calls.
+use Prim.Native.Nat.{ℕ, _%_}
+use mathlib.Core.Path.{_≡_}
+use mathlib.Core.List.{List, [], _∷_}
+use lib.ListN.{length, take}
+use Rattle.direct.specs.Call.{freshCall}
+use Rattle.direct.specs.Runs.{Turn, outcome, run, writtenBy}
+use Rattle.direct.specs.Demands.{Reads}
+use Rattle.host_direct.specs.Packing.{packed}
+use Rattle.host_direct.specs.Entries.{Left, stepped, freshened, hostStep}
+
+-- the record's bytes after some turns
+unfoldable pub hostRun : List ℕ → List Turn → List ℕ
+hostRun s [] = s
+hostRun s (t ∷ ts) = hostRun (hostStep s (t .event) (t .buffer) .call) ts
+
+-- from the fresh record on, whatever stood in the 7 bytes
+abbrev pub after : List ℕ → List Turn → List ℕ
+after s ts = hostRun (freshened s .1) ts
+
+-- the bytes are those of the run's record
+abbrev pub RunIsPacked : Type 0
+RunIsPacked = (s : List ℕ) (ts : List Turn) → length s ≡ 7 → after s ts ≡ packed (run freshCall ts)
+
+-- one more turn gives the result, the bytes and the buffer of the step on the run's record
+abbrev pub TurnIsStep : Type 0
+TurnIsStep =
+    (s : List ℕ) (ts : List Turn) (t : Turn) →
+    length s ≡ 7 → hostStep (after s ts) (t .event) (t .buffer) ≡ stepped (packed (run freshCall ts)) (outcome (run freshCall ts) t)
+
+-- the bytes that its result counts, of the buffer that it leaves, are record after record the messages of the run's turn
+abbrev pub TurnReadsBack : Type 0
+TurnReadsBack =
+    (s : List ℕ) (ts : List Turn) (t : Turn) →
+    length s ≡ 7 →
+    Reads (take (hostStep (after s ts) (t .event) (t .buffer) .result % 65536) (hostStep (after s ts) (t .event) (t .buffer) .out))
+    (writtenBy (run freshCall ts) t)
