@@ -3,9 +3,9 @@ use mathlib.Core.Path.{_≡_, refl, _∙_}
 use mathlib.Core.Bool.{Bool, true, false, cond}
 use mathlib.Core.List.{List, [], _∷_, _++_}
 use mathlib.Core.Option.{none, some}
-use Prim.Native.Nat.{ℕ, _+_}
+use Prim.Native.Nat.{ℕ, _+_, _<_, _≤_}
 use native.Mathlib.Omega.{arith}
-use borrow.Author.Tests.{eq-eqb, ne-eqb, eqb-true}
+use borrow.Author.Tests.{eq-eqb, ne-eqb, eqb-true, eqb-false}
 use lib.Dec.{eqb}
 use lib.ListN.{length}
 use Rattle.records.specs.Bodies.{Values, size, bodyOf, kindIn}
@@ -50,14 +50,32 @@ module _ (t : Table) (ks : List (t .Kind)) (k : t .Kind) {n : ℕ} (s : List ℕ
       (λ h. rw (key, kn, only, h) e)
       (λ h. rw (key, kn, only, h) (rw h at e))
 
-  -- the shorter of two that have the number, where the size is not the longer one's
-  pub shorter : (l : t .Kind) → find t (t .rowOf k .number) (length s) ks ≡ cond (eqb (length s) (sizeOf t k)) (some k) (cond (eqb (length s) (sizeOf t l)) (some l) none) → (length s ≡ sizeOf t l → ⊥) → {r : Read (t .Value)} → r ≡ readBody t k s → r ≡ readAmong t ks n s
-  shorter l two other e = by-number (two ∙ rw (ne-eqb _ _ other)) e
-
   -- the one that has the number and the size
   pub by-size : length s ≡ sizeOf t k → find t (t .rowOf k .number) (sizeOf t k) ks ≡ some k → {r : Read (t .Value)} → r ≡ readBody t k s → r ≡ readAmong t ks n s
   unfolding readAmong
   by-size whole found e = rw (key, kn, whole, found) e
+
+-- two kinds that have the number, the second one byte longer
+module _ (t : Table) (ks : List (t .Kind)) (k l : t .Kind) {n : ℕ} (s : List ℕ) (key : n ≡ t .rowOf k .number) (kn : known t (t .rowOf k .number) ks ≡ true) (two : find t (t .rowOf k .number) (length s) ks ≡ cond (eqb (length s) (sizeOf t k)) (some k) (cond (eqb (length s) (sizeOf t l)) (some l) none)) (longer : sizeOf t l ≡ sizeOf t k + 1) where
+  neither : (length s ≡ sizeOf t k → ⊥) → (length s ≡ sizeOf t l → ⊥) → refused 4 2 ≡ readAmong t ks n s
+  unfolding readAmong
+  neither other others = rw (key, kn, two, ne-eqb _ _ other, ne-eqb _ _ others)
+
+  pub under : length s < sizeOf t k → refused 4 2 ≡ readAmong t ks n s
+  under h = neither (λ z. omega arith) (λ z. omega arith)
+
+  pub beyond : sizeOf t l < length s → refused 4 2 ≡ readAmong t ks n s
+  beyond h = neither (λ z. omega arith) (λ z. omega arith)
+
+  -- what is so for a body of either size
+  pub of-two : sizeOf t k ≤ length s → length s ≤ sizeOf t l → {r : Read (t .Value)} → (length s ≡ sizeOf t k → r ≡ readBody t k s) → (length s ≡ sizeOf t l → r ≡ readBody t l s) → r ≡ readAmong t ks n s
+  unfolding readAmong
+  of-two low high old new =
+      by-test (eqb (length s) (sizeOf t k))
+      (λ h. rw (key, kn, two, h) (old (eqb-true _ _ h)))
+      (λ h.
+      let other : length s ≡ sizeOf t k → ⊥ = eqb-false _ _ h in
+      let whole : length s ≡ sizeOf t l = omega arith in rw (key, kn, two, h, eq-eqb _ _ whole) (new whole))
 
 module _ (t : Table) (n : ℕ) (s : List ℕ) where
   -- all kinds, where the number is not retired

@@ -1,11 +1,15 @@
 -- Records that may carry slots at their end: with them they are the longer line of the table, without them the shorter.
-use Prim.Native.Nat.{ℕ, zero, suc}
+use Prim.Native.Nat.{ℕ, zero, suc, _+_}
 use mathlib.Core.Bool.{Bool, _&&_}
 use mathlib.Core.Path.{_≡_, refl}
+use mathlib.Core.List.{List}
+use native.Mathlib.Omega.{arith}
+use borrow.Author.Tests.{eq-eqb, ne-eqb}
+use lib.ListN.{length}
 use Rattle.records.specs.declared.events.Event.{Event}
 use Rattle.records.specs.declared.messages.Message.{Message}
 use Rattle.records.specs.Letters.{fits, slotsFit, a₁, d, q, i, g, o, r, o₁₆, s}
-use Rattle.records.specs.Bodies.{flatSize}
+use Rattle.records.specs.Bodies.{Found, is, badAt, valueAt, slotsAt, flatSize}
 use Rattle.records.specs.Tables.{flatOf, flat, fine}
 use Rattle.records.specs.Events.{events, setupRequestSlots, dConnectSlots, dInfoSlots}
 use Rattle.records.specs.Messages.{messages, uSetupSlots, messageSize}
@@ -14,6 +18,22 @@ use Rattle.records.proofs.Writing.{only, also, no-more, all-fit}
 pub carried-fit : (v : ℕ) → (v ≡ 0 → ⊥) → {b : Bool} → b ≡ fits s v → b ≡ slotsFit v
 carried-fit zero other e = absurd (other refl)
 carried-fit (suc m) other e = e
+
+-- ---- read where they may stand
+
+module _ (bytes : List ℕ) (at : ℕ) where
+  pub none-carried : {v : ℕ} → is v ≡ slotsAt bytes at → length bytes ≡ at → v ≡ 0
+  unfolding slotsAt
+  none-carried {v} e w = let z : _≡_ {A = Found ℕ} (is v) (is 0) = rw (eq-eqb _ _ w) at e in cc
+
+  pub none-bad : {p : ℕ} → badAt p ≡ slotsAt bytes at → length bytes ≡ at → ⊥
+  unfolding slotsAt
+  none-bad {p} e w = let z : _≡_ {A = Found ℕ} (badAt p) (is 0) = rw (eq-eqb _ _ w) at e in let y : _≡_ {A = ℕ} 0 1 = cc in omega arith
+
+  -- where the body goes on
+  pub carried-at : {x : Found ℕ} → x ≡ slotsAt bytes at → length bytes ≡ at + 1 → x ≡ valueAt s bytes at
+  unfolding slotsAt
+  carried-at {x} e w = let other : length bytes ≡ at → ⊥ = λ z. omega arith in rw (ne-eqb _ _ other) at e
 
 -- ---- with slots
 

@@ -8,7 +8,7 @@ use lib.Dec.{leb, eqb}
 use lib.ListN.{length}
 use lib.Seq.{sets}
 use Rattle.records.specs.Bytes.{number, bytes}
-use Rattle.records.specs.Letters.{Letter, width, fits}
+use Rattle.records.specs.Letters.{Letter, width, fits, s}
 use Rattle.records.specs.declared.bodies.Head.{Head}
 use Rattle.records.specs.declared.bodies.Written.{Written}
 use Rattle.records.specs.declared.fields.ByteField.{ByteField}
@@ -37,6 +37,10 @@ andThen (badAt p) f = badAt p
 -- a letter's value at a position, where it is in the letter's range
 unfoldable pub valueAt : Letter → List ℕ → ℕ → Found ℕ
 valueAt l s at = cond (fits l (number (width l) s at)) (is (number (width l) s at)) (badAt at)
+
+-- the slots where a body may carry them, from its end on: 0 where it ends there
+unfoldable pub slotsAt : List ℕ → ℕ → Found ℕ
+slotsAt bytes at = cond (eqb (length bytes) at) (is 0) (valueAt s bytes at)
 
 -- the letters' values, one after the other from a position on
 unfoldable pub valuesAt : (ls : List Letter) → List ℕ → ℕ → Found (Values ls)

@@ -16,6 +16,7 @@ use crate::fields::long_in;
 use crate::fields::put_head;
 use crate::fields::put_long;
 use crate::fields::put_word;
+use crate::fields::slots_in;
 use crate::fields::word_in;
 use crate::letters::Byte;
 use crate::letters::Long;
@@ -139,95 +140,6 @@ pub enum EventRead {
     UnknownKind,
     Retired,
     BadBody(u8),
-}
-
-// SETUP request a d q s.
-fn read_setup_request_slots(s: &[u8]) -> EventRead
-    ensures { λ r. ⌜ asEventRead r ≡ readBody events setupRequestSlots (now (s .entry)) ⌝ }
-{
-    if s.len() != 11 {
-        return EventRead::BadBody(2);
-    }
-    let LongField::Is(address) = long_in(s, 4, Long::A1) else {
-        return EventRead::BadBody(4);
-    };
-    let ByteField::Is(mode) = byte_in(s, 8, Byte::D) else {
-        return EventRead::BadBody(8);
-    };
-    let ByteField::Is(ask) = byte_in(s, 9, Byte::Q) else {
-        return EventRead::BadBody(9);
-    };
-    let ByteField::Is(slots) = byte_in(s, 10, Byte::S) else {
-        return EventRead::BadBody(10);
-    };
-    EventRead::Is(Event::SetupRequest {
-        address,
-        mode,
-        ask,
-        slots,
-    })
-}
-
-// D-CONNECT i g d o s.
-fn read_d_connect_slots(s: &[u8]) -> EventRead
-    ensures { λ r. ⌜ asEventRead r ≡ readBody events dConnectSlots (now (s .entry)) ⌝ }
-{
-    if s.len() != 10 {
-        return EventRead::BadBody(2);
-    }
-    let WordField::Is(id) = word_in(s, 4, Word::I) else {
-        return EventRead::BadBody(4);
-    };
-    let ByteField::Is(grant) = byte_in(s, 6, Byte::G) else {
-        return EventRead::BadBody(6);
-    };
-    let ByteField::Is(mode) = byte_in(s, 7, Byte::D) else {
-        return EventRead::BadBody(7);
-    };
-    let ByteField::Is(code) = byte_in(s, 8, Byte::O) else {
-        return EventRead::BadBody(8);
-    };
-    let ByteField::Is(slots) = byte_in(s, 9, Byte::S) else {
-        return EventRead::BadBody(9);
-    };
-    EventRead::Is(Event::DConnect {
-        id,
-        grant,
-        mode,
-        code,
-        slots,
-    })
-}
-
-// D-INFO i r o d s.
-fn read_d_info_slots(s: &[u8]) -> EventRead
-    ensures { λ r. ⌜ asEventRead r ≡ readBody events dInfoSlots (now (s .entry)) ⌝ }
-{
-    if s.len() != 10 {
-        return EventRead::BadBody(2);
-    }
-    let WordField::Is(id) = word_in(s, 4, Word::I) else {
-        return EventRead::BadBody(4);
-    };
-    let ByteField::Is(reset) = byte_in(s, 6, Byte::R) else {
-        return EventRead::BadBody(6);
-    };
-    let ByteField::Is(code) = byte_in(s, 7, Byte::O16) else {
-        return EventRead::BadBody(7);
-    };
-    let ByteField::Is(mode) = byte_in(s, 8, Byte::D) else {
-        return EventRead::BadBody(8);
-    };
-    let ByteField::Is(slots) = byte_in(s, 9, Byte::S) else {
-        return EventRead::BadBody(9);
-    };
-    EventRead::Is(Event::DInfo {
-        id,
-        reset,
-        code,
-        mode,
-        slots,
-    })
 }
 
 // Those from the lower layers and the timers.
@@ -400,10 +312,10 @@ fn read_setup(kind: u16, s: &[u8]) -> EventRead
             EventRead::Is(Event::DAlert { id })
         }
         0x0203 => { // D-CONNECT i g d o, or with s behind them
-            if s.len() == 10 {
-                return read_d_connect_slots(s);
+            if s.len() < 9 {
+                return EventRead::BadBody(2);
             }
-            if s.len() != 9 {
+            if 10 < s.len() {
                 return EventRead::BadBody(2);
             }
             let WordField::Is(id) = word_in(s, 4, Word::I) else {
@@ -418,12 +330,15 @@ fn read_setup(kind: u16, s: &[u8]) -> EventRead
             let ByteField::Is(code) = byte_in(s, 8, Byte::O) else {
                 return EventRead::BadBody(8);
             };
+            let ByteField::Is(slots) = slots_in(s, 9) else {
+                return EventRead::BadBody(9);
+            };
             EventRead::Is(Event::DConnect {
                 id,
                 grant,
                 mode,
                 code,
-                slots: 0,
+                slots,
             })
         }
         0x0204 => { // D-CONNECT ACKNOWLEDGE i g o
@@ -457,10 +372,10 @@ fn read_setup(kind: u16, s: &[u8]) -> EventRead
             EventRead::Is(Event::DSetup { id, address, mode })
         }
         0x0206 => { // D-INFO i r o d, or with s behind them
-            if s.len() == 10 {
-                return read_d_info_slots(s);
+            if s.len() < 9 {
+                return EventRead::BadBody(2);
             }
-            if s.len() != 9 {
+            if 10 < s.len() {
                 return EventRead::BadBody(2);
             }
             let WordField::Is(id) = word_in(s, 4, Word::I) else {
@@ -475,12 +390,15 @@ fn read_setup(kind: u16, s: &[u8]) -> EventRead
             let ByteField::Is(mode) = byte_in(s, 8, Byte::D) else {
                 return EventRead::BadBody(8);
             };
+            let ByteField::Is(slots) = slots_in(s, 9) else {
+                return EventRead::BadBody(9);
+            };
             EventRead::Is(Event::DInfo {
                 id,
                 reset,
                 code,
                 mode,
-                slots: 0,
+                slots,
             })
         }
         _ => read_call(kind, s),
@@ -493,10 +411,10 @@ fn read_user(kind: u16, s: &[u8]) -> EventRead
 {
     match kind {
         0x0101 => { // SETUP request a d q, or with s behind them
-            if s.len() == 11 {
-                return read_setup_request_slots(s);
+            if s.len() < 10 {
+                return EventRead::BadBody(2);
             }
-            if s.len() != 10 {
+            if 11 < s.len() {
                 return EventRead::BadBody(2);
             }
             let LongField::Is(address) = long_in(s, 4, Long::A1) else {
@@ -508,11 +426,14 @@ fn read_user(kind: u16, s: &[u8]) -> EventRead
             let ByteField::Is(ask) = byte_in(s, 9, Byte::Q) else {
                 return EventRead::BadBody(9);
             };
+            let ByteField::Is(slots) = slots_in(s, 10) else {
+                return EventRead::BadBody(10);
+            };
             EventRead::Is(Event::SetupRequest {
                 address,
                 mode,
                 ask,
-                slots: 0,
+                slots,
             })
         }
         0x0102 => { // SETUP response

@@ -5,7 +5,7 @@ ghost use mathlib.Core.List.{_++_};
 ghost use lib.ListN.{length};
 ghost use Rattle.records.specs.Bytes.{number, bytes};
 ghost use Rattle.records.specs.Letters.{Letter};
-ghost use Rattle.records.specs.Bodies.{Stored, valueAt, asByte, asWord, asLong};
+ghost use Rattle.records.specs.Bodies.{Stored, valueAt, slotsAt, asByte, asWord, asLong};
 use crate::letters::Byte;
 use crate::letters::Long;
 use crate::letters::Word;
@@ -57,6 +57,17 @@ pub fn byte_in(s: &[u8], at: usize, letter: Byte) -> ByteField
         return ByteField::Bad;
     }
     ByteField::Is(v)
+}
+
+// The slots at the end of a body that may carry them: 0 where it ends before.
+pub fn slots_in(s: &[u8], at: usize) -> ByteField
+    requires { ⌜ at ≤ length (now s) ⌝ }
+    ensures { λ r. ⌜ asByte at r ≡ slotsAt (now (s .entry)) at ⌝ }
+{
+    if s.len() == at {
+        return ByteField::Is(0);
+    }
+    byte_in(s, at, Byte::S)
 }
 
 pub fn word_in(s: &[u8], at: usize, letter: Word) -> WordField

@@ -16,6 +16,7 @@ use crate::fields::long_in;
 use crate::fields::put_head;
 use crate::fields::put_long;
 use crate::fields::put_word;
+use crate::fields::slots_in;
 use crate::fields::word_in;
 use crate::letters::Byte;
 use crate::letters::Long;
@@ -142,33 +143,6 @@ fn start_agrees(timer: u16, code: u8) -> bool
         return true;
     }
     code == 0
-}
-
-// U-SETUP a d q s.
-fn read_u_setup_slots(s: &[u8]) -> MessageRead
-    ensures { λ r. ⌜ asMessageRead r ≡ readBody messages uSetupSlots (now (s .entry)) ⌝ }
-{
-    if s.len() != 11 {
-        return MessageRead::BadBody(2);
-    }
-    let LongField::Is(address) = long_in(s, 4, Long::A1) else {
-        return MessageRead::BadBody(4);
-    };
-    let ByteField::Is(mode) = byte_in(s, 8, Byte::D) else {
-        return MessageRead::BadBody(8);
-    };
-    let ByteField::Is(ask) = byte_in(s, 9, Byte::Q) else {
-        return MessageRead::BadBody(9);
-    };
-    let ByteField::Is(slots) = byte_in(s, 10, Byte::S) else {
-        return MessageRead::BadBody(10);
-    };
-    MessageRead::Is(Message::USetup {
-        address,
-        mode,
-        ask,
-        slots,
-    })
 }
 
 // Those to the user.
@@ -339,10 +313,10 @@ fn read_network(kind: u16, s: &[u8]) -> MessageRead
 {
     match kind {
         0x0501 => { // U-SETUP a d q, or with s behind them
-            if s.len() == 11 {
-                return read_u_setup_slots(s);
+            if s.len() < 10 {
+                return MessageRead::BadBody(2);
             }
-            if s.len() != 10 {
+            if 11 < s.len() {
                 return MessageRead::BadBody(2);
             }
             let LongField::Is(address) = long_in(s, 4, Long::A1) else {
@@ -354,11 +328,14 @@ fn read_network(kind: u16, s: &[u8]) -> MessageRead
             let ByteField::Is(ask) = byte_in(s, 9, Byte::Q) else {
                 return MessageRead::BadBody(9);
             };
+            let ByteField::Is(slots) = slots_in(s, 10) else {
+                return MessageRead::BadBody(10);
+            };
             MessageRead::Is(Message::USetup {
                 address,
                 mode,
                 ask,
-                slots: 0,
+                slots,
             })
         }
         0x0502 => { // U-CONNECT i
