@@ -129,6 +129,19 @@ static uint32_t call(unsigned function, uint32_t number, uint8_t *const at[], co
     case 31:
         return callcontrol_test_record_in((uint8_t)number, (uint8_t)(number >> 8), at[RECORD],
                                           len[RECORD], at[INPUT], len[INPUT], at[OUT], len[OUT]);
+    case 40:
+        return callcontrol_direct_fresh(at[RECORD], len[RECORD]);
+    case 41:
+        return callcontrol_direct_step(at[RECORD], len[RECORD], at[INPUT], len[INPUT], at[OUT],
+                                       len[OUT]);
+    case 42:
+        return callcontrol_direct_check_event(at[INPUT], len[INPUT]);
+    case 43:
+        return callcontrol_direct_check_message(at[INPUT], len[INPUT]);
+    case 44:
+        return callcontrol_direct_copy_event(at[INPUT], len[INPUT], at[OUT], len[OUT]);
+    case 45:
+        return callcontrol_direct_copy_message(at[INPUT], len[INPUT], at[OUT], len[OUT]);
     case 200:
         return small_callcontrol_fresh(at[RECORD], len[RECORD]);
     case 201:

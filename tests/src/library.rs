@@ -13,6 +13,8 @@ pub mod console;
 #[cfg(not(bridged))]
 mod direct;
 #[cfg(not(bridged))]
+mod direct_mode;
+#[cfg(not(bridged))]
 mod pieces;
 #[cfg(not(bridged))]
 pub mod small;

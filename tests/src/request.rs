@@ -34,6 +34,13 @@ pub enum Function {
     // Of the tests' own archive: carry as the record, piece as the input; beside them the place and, above
     // its 8 bits, the size that PiecesNext gave.
     RecordIn = 31,
+    // Direct mode: its record of 7 bytes.
+    DirectFresh = 40,
+    DirectStep = 41,
+    DirectCheckEvent = 42,
+    DirectCheckMessage = 43,
+    DirectCopyEvent = 44,
+    DirectCopyMessage = 45,
     // Fresh and Step of the archive with the second engine.
     SmallFresh = 200,
     SmallStep = 201,
@@ -57,6 +64,12 @@ impl Function {
         Function::ConsoleStep,
         Function::Play,
         Function::ConsolePlay,
+        Function::DirectFresh,
+        Function::DirectStep,
+        Function::DirectCheckEvent,
+        Function::DirectCheckMessage,
+        Function::DirectCopyEvent,
+        Function::DirectCopyMessage,
         Function::RecordIn,
         Function::SmallFresh,
         Function::SmallStep,

@@ -10,6 +10,7 @@ pub mod bank;
 pub mod boundary;
 pub mod call;
 pub mod console;
+pub mod direct;
 pub mod history;
 pub mod kinds;
 pub mod pieces;

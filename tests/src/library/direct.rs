@@ -2,6 +2,7 @@
 
 use super::bank;
 use super::console;
+use super::direct_mode;
 use super::small;
 use crate::request::{self, Function, Place, BLOCK, INPUT, OUT, RECORD};
 use std::ffi::c_void;
@@ -134,6 +135,12 @@ fn call(function: Function, number: u32, [record, input, out]: [&mut [u8]; 3]) -
             step(record, event, lent)
         }),
         Function::ConsolePlay => play(record, input, out, number, true, console::step),
+        Function::DirectFresh => direct_mode::fresh(record),
+        Function::DirectStep => direct_mode::step(record, input, out),
+        Function::DirectCheckEvent => direct_mode::check_event(input),
+        Function::DirectCheckMessage => direct_mode::check_message(input),
+        Function::DirectCopyEvent => direct_mode::copy_event(input, out),
+        Function::DirectCopyMessage => direct_mode::copy_message(input, out),
         Function::SmallFresh => small::fresh(record),
         Function::SmallStep => small::step(record, input, out),
     }
