@@ -83,6 +83,12 @@ impl Blocks {
             text.put(" -> ");
             words::plane(text, after.plane);
         }
+        if after.state != State::Idle || before.slots != after.slots {
+            text.put("\n").put(indent).put("slots    ").number(before.slots);
+            if before.slots != after.slots {
+                text.put(" -> ").number(after.slots);
+            }
+        }
         text.put("\n").put(indent).put("timers   ");
         words::timers(text, after);
         text.put("\n");

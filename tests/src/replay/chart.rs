@@ -8,7 +8,7 @@ use super::Fault;
 use crate::account::console::PLACES;
 use crate::account::kinds::{Party, MESSAGES};
 use crate::account::records::{Message, MAX_T310_CODE};
-use crate::account::{Path, Plane, State, Timer};
+use crate::account::{self, Path, Plane, State, Timer};
 use std::collections::VecDeque;
 use std::fmt::Write;
 use std::path::PathBuf;
@@ -125,6 +125,33 @@ struct Call {
     ended: bool,
 }
 
+/// What is said of a call where it changes.
+#[derive(Clone, Copy, PartialEq, Eq)]
+struct Situation {
+    state: State,
+    path: Path,
+    slots: u8,
+}
+
+impl Situation {
+    fn of(call: &account::Call) -> Situation {
+        Situation { state: call.state, path: call.path, slots: call.slots }
+    }
+
+    fn words(self) -> String {
+        let mut text = Text::default();
+        text.put(self.state.name());
+        if self.path != Path::Up {
+            text.put(", ").put(self.path.name());
+        }
+        if self.slots != account::Call::FRESH.slots {
+            text.put(", ");
+            words::slots(&mut text, self.slots);
+        }
+        text.as_str().to_owned()
+    }
+}
+
 /// What is drawn of a record.
 struct Row {
     number: u64,
@@ -133,9 +160,9 @@ struct Row {
     /// Why it was refused.
     refused: Option<String>,
     expired: Option<Timer>,
-    /// How the call stood after it; before it, state and path.
-    before: (State, Path),
-    after: (State, Path),
+    /// How the call stood before and after it.
+    before: Situation,
+    after: Situation,
     plane: Plane,
     timers: [bool; 7],
     stopped: Vec<Timer>,
@@ -166,8 +193,8 @@ impl Row {
             event,
             refused,
             expired: None,
-            before: (before.state, before.path),
-            after: (call.state, call.path),
+            before: Situation::of(&before),
+            after: Situation::of(&call),
             plane: call.plane,
             timers: call.timers,
             stopped: Vec::new(),
@@ -240,13 +267,6 @@ fn path_colour(path: Path) -> Option<&'static str> {
         Path::Up => None,
         Path::Broken => Some("#e03131"),
         Path::Restoring => Some("#fab005"),
-    }
-}
-
-fn situation((state, path): (State, Path)) -> String {
-    match path {
-        Path::Up => state.name().to_owned(),
-        _ => format!("{}, {}", state.name(), path.name()),
     }
 }
 
@@ -359,11 +379,12 @@ impl Page {
     /// Draws all rows and gives where they end.
     fn draw(&self, drawing: &mut Drawing, width: i32) -> i32 {
         let mut y = TOP;
-        let start = self.rows().next().map_or((State::Idle, Path::Up), |row| row.before);
-        drawing.pill(y + PILL / 2, &situation(start));
+        let fresh = Situation::of(&account::Call::FRESH);
+        let start = self.rows().next().map_or(fresh, |row| row.before);
+        drawing.pill(y + PILL / 2, &start.words());
         y += PILL;
         let mut band = (y, Plane::Off);
-        let mut strip = (y, start.1);
+        let mut strip = (y, start.path);
         let mut bars: [Option<(i32, u64, u8)>; 7] = [None; 7];
         for (at, row) in self.rows().enumerate() {
             if at == FIRST && self.left_out > 0 {
@@ -449,12 +470,12 @@ impl Page {
             drawing.band(*band, at);
             *band = (at, row.plane);
         }
-        if row.after.1 != strip.1 {
+        if row.after.path != strip.1 {
             drawing.strip(*strip, y);
-            *strip = (y, row.after.1);
+            *strip = (y, row.after.path);
         }
         if row.before != row.after {
-            drawing.pill(y + 5 + PILL / 2, &situation(row.after));
+            drawing.pill(y + 5 + PILL / 2, &row.after.words());
         }
         top + row.height()
     }

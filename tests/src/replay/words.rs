@@ -172,6 +172,11 @@ pub fn bad_body(text: &mut Text, kind: &Kind, record: &[u8], place: u32) {
     }
 }
 
+/// 1 slot, 2 slots.
+pub fn slots(text: &mut Text, slots: u8) {
+    text.number(slots).put(if slots == 1 { " slot" } else { " slots" });
+}
+
 /// State and path. Only an active call has a path that can be other than up.
 pub fn state(text: &mut Text, call: &Call) {
     text.put(call.state.name()).put(", path ").put(call.path.name());
