@@ -57,6 +57,10 @@ extern "C" {
 #define CALLCONTROL_READER_SIZE 2u          /* bytes of a reader of pieces */
 #define CALLCONTROL_CARRY_SIZE 64u          /* bytes of its carry, and of the longest record it hands on */
 
+#define CALLCONTROL_ROOMS_SIZE 20u          /* bytes of the rooms of waiting channel questions */
+#define CALLCONTROL_CHANNEL_ASK_MAX 7u      /* the most a question or a decision writes ... */
+#define CALLCONTROL_CHANNEL_MAX 28u         /* ... and a call's end */
+
 #define CALLCONTROL_BANK_SIZE 39u           /* bytes of a bank of timers */
 #define CALLCONTROL_TIMERS 7u               /* the timers in it, so the most that one reading hands out */
 #define CALLCONTROL_LENGTHS 22u             /* entries of a table of lengths */
@@ -100,6 +104,14 @@ enum callcontrol_bank_answer {
     CALLCONTROL_BAD_TIMER_LENGTH = 31, /* a length of 0 or over 2^30, or none in the table */
     CALLCONTROL_READING_EARLIER = 32,  /* the reading is earlier than the last */
     CALLCONTROL_LIST_SHORT = 33        /* more timers are due than the lent list holds */
+};
+
+/* Of channel questions: 0, 1, 4 (place 0) and 7, and these; in the order 1, 4, 50, 51, 53, 52, 7. */
+enum callcontrol_channel_answer {
+    CALLCONTROL_NUMBER_WAITS = 50, /* a question of this number waits already */
+    CALLCONTROL_FOUR_WAIT = 51,    /* the question would have to wait, and four do */
+    CALLCONTROL_NONE_WAITS = 52,   /* no waiting question of this number waits for this decision */
+    CALLCONTROL_OWN_GROUP = 53     /* a group that we are calling, otherwise than CALLCONTROL_ASKED_OWN_GROUP; open with the client */
 };
 
 /* ---- The call record ----------------------------------------------------------------------- */
@@ -519,6 +531,91 @@ uint32_t callcontrol_direct_copy_event(const uint8_t *bytes, size_t len,
                                        uint8_t *out, size_t out_len); /* in libhost_direct.a */
 uint32_t callcontrol_direct_copy_message(const uint8_t *bytes, size_t len,
                                          uint8_t *out, size_t out_len); /* in libhost_direct.a */
+
+/* ---- Channel change responses -------------------------------------------------------------- */
+
+/*
+ * The lower layers ask whether to follow a channel allocation ("channel change response required",
+ * EN 300 392-2 clause 14.5.3.2). Each question brings a number, and the call: the identifier in the
+ * PDU that came with it. The answer is a message CALLCONTROL_CHANNEL_ANSWER with the number and a
+ * verdict, which the host hands to the lower layers as "channel change accepted". A question is
+ * answered in the call that asks, or it waits in one of four rooms and is answered by its decision or
+ * by its call's end, whichever comes first. The functions return answer * 2^24 + count.
+ *
+ * A refusal changes nothing and answers nothing: 50, 51 and 53 leave the lower layers without an
+ * answer, and what they do then is the host's to settle. After 7 lend more and call again.
+ *
+ * A group D-SETUP that the network repeats is a question of its own each time, with its own number.
+ */
+
+/* What the rooms hold, four times: 0 free, 1 waits for the user, 2 for the cancel. */
+enum callcontrol_room_field {
+    CALLCONTROL_ROOM_AT_WAIT = 0,   /* u8; a free room is zeros */
+    CALLCONTROL_ROOM_AT_NUMBER = 1, /* u16 */
+    CALLCONTROL_ROOM_AT_CALL = 3,   /* u16 */
+    CALLCONTROL_ROOM_SIZE = 5
+};
+
+/* The verdict in a message CALLCONTROL_CHANNEL_ANSWER. */
+enum callcontrol_verdict {
+    CALLCONTROL_ACCEPT = 0,
+    CALLCONTROL_REJECT = 1,
+    CALLCONTROL_IGNORE = 2
+};
+
+/* What is asked. For the first two use callcontrol_channel_pdu, which takes the step's result. */
+enum callcontrol_asked {
+    CALLCONTROL_ASKED_TAKEN = 0,        /* individually addressed, and the step took the PDU: accept */
+    CALLCONTROL_ASKED_REFUSED = 1,      /* individually addressed, and the step refused it: reject */
+    CALLCONTROL_ASKED_GROUP = 2,        /* D-SETUP to a group that we aren't calling: waits for the user */
+    CALLCONTROL_ASKED_OWN_GROUP = 3,    /* to one that we are calling, U-SETUP not reported sent, service compatible: writes CANCEL, waits for it */
+    CALLCONTROL_ASKED_OWN_GROUP_OTHERWISE = 4, /* to one that we are calling, otherwise: answer 53 */
+    CALLCONTROL_ASKED_OBEYED = 5,       /* a group addressed PDU of an ongoing call that is obeyed: accept */
+    CALLCONTROL_ASKED_OVER_OWN_TRANSMISSION = 6, /* not obeyed: D-TX GRANTED or D-TX INTERRUPT while we transmit: ignore */
+    CALLCONTROL_ASKED_NOT_OBEYED = 7    /* not obeyed otherwise: reject */
+};
+
+/* What is decided. */
+enum callcontrol_decision {
+    CALLCONTROL_SETUP_RESPONDED = 0,  /* the user's SETUP response: accept */
+    CALLCONTROL_RELEASE_REQUESTED = 1, /* the user's RELEASE request: reject */
+    CALLCONTROL_T330_EXPIRED = 2,     /* reject */
+    CALLCONTROL_CANCEL_WORKED = 3,    /* accept */
+    CALLCONTROL_CANCEL_FAILED = 4     /* ignore */
+};
+
+/* Writes four free rooms and counts 20; answer 1 and nothing written if rooms_len is not 20. */
+uint32_t callcontrol_channel_fresh(uint8_t *rooms, size_t rooms_len); /* in libhost.a */
+
+/*
+ * A question of this number, on a PDU with this call's identifier (0 to 16383). One that waits is
+ * answer 0 with the count of what it wrote: 0, or CANCEL's 4. For a question that waits for the user
+ * the host starts T330 from this answer on, and stops it when the question is answered; no bank has
+ * T330. Answer 0, 1, 4, 50, 51, 53 or 7.
+ */
+uint32_t callcontrol_channel_ask(uint8_t *rooms, size_t rooms_len, uint16_t number, uint16_t call,
+                                 uint8_t asked, uint8_t *out, size_t out_len); /* in libhost.a */
+
+/*
+ * The question on an individually addressed PDU, with the result that callcontrol_step or
+ * callcontrol_console_step returned for that PDU: accepted if the step took it, else rejected. A step
+ * that got 7 has not taken it: make the step again with more room first, and ask after the last try.
+ * Answer 0, 1, 4, 50 or 7.
+ */
+uint32_t callcontrol_channel_pdu(uint8_t *rooms, size_t rooms_len, uint16_t number, uint16_t call,
+                                 uint32_t result, uint8_t *out, size_t out_len); /* in libhost.a */
+
+/* A decision for the waiting question of this number. Answer 0, 1, 4, 52 or 7. */
+uint32_t callcontrol_channel_decide(uint8_t *rooms, size_t rooms_len, uint16_t number,
+                                    uint8_t decision, uint8_t *out, size_t out_len); /* in libhost.a */
+
+/*
+ * A call has ended: the questions that wait for it are rejected, rooms rising, all or none. A record
+ * that is fresh again has no identifier: keep it from before the step that ends the call. The question
+ * on the ending PDU itself is asked first, by callcontrol_channel_pdu, and accepted. Answer 0, 1, 4 or 7.
+ */
+uint32_t callcontrol_channel_ended(uint8_t *rooms, size_t rooms_len, uint16_t call,
+                                   uint8_t *out, size_t out_len); /* in libhost.a */
 
 #ifdef __cplusplus
 }

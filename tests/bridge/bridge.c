@@ -87,6 +87,11 @@ static uint32_t play(int console, size_t lent, uint8_t *record, size_t record_le
     return played;
 }
 
+static uint16_t half(const uint8_t *at)
+{
+    return (uint16_t)(at[0] | at[1] << 8);
+}
+
 static uint32_t call(unsigned function, uint32_t number, uint8_t *const at[], const size_t len[])
 {
     switch (function) {
@@ -122,6 +127,21 @@ static uint32_t call(unsigned function, uint32_t number, uint8_t *const at[], co
     case 13:
         return callcontrol_console_step(at[RECORD], len[RECORD], (uint8_t)number, at[INPUT],
                                         len[INPUT], at[OUT], len[OUT]);
+    case 20:
+        return callcontrol_channel_fresh(at[RECORD], len[RECORD]);
+    case 21:
+        return callcontrol_channel_ask(at[RECORD], len[RECORD], half(at[INPUT]), half(at[INPUT] + 2),
+                                       at[INPUT][4], at[OUT], len[OUT]);
+    case 22:
+        return callcontrol_channel_pdu(at[RECORD], len[RECORD], half(at[INPUT]), half(at[INPUT] + 2),
+                                       half(at[INPUT] + 4) | (uint32_t)half(at[INPUT] + 6) << 16,
+                                       at[OUT], len[OUT]);
+    case 23:
+        return callcontrol_channel_decide(at[RECORD], len[RECORD], half(at[INPUT]), at[INPUT][4],
+                                          at[OUT], len[OUT]);
+    case 24:
+        return callcontrol_channel_ended(at[RECORD], len[RECORD], half(at[INPUT] + 2), at[OUT],
+                                         len[OUT]);
     case 14:
     case 15:
         return play(function == 15, number, at[RECORD], len[RECORD], at[INPUT], len[INPUT],

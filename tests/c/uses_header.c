@@ -48,6 +48,29 @@ static int reads_pieces(void)
     return callcontrol_answer_of(result) == CALLCONTROL_CARRY_TOO_SHORT ? 0 : 17;
 }
 
+static int answers_questions(void)
+{
+    uint8_t rooms[CALLCONTROL_ROOMS_SIZE];
+    uint8_t out[CALLCONTROL_CHANNEL_MAX];
+    uint32_t result = callcontrol_channel_fresh(rooms, sizeof rooms);
+    if (result != CALLCONTROL_ROOMS_SIZE)
+        return 30;
+    result = callcontrol_channel_pdu(rooms, sizeof rooms, 1, 21, result, out, sizeof out);
+    if (callcontrol_count_of(result) != CALLCONTROL_CHANNEL_ASK_MAX || out[6] != CALLCONTROL_ACCEPT)
+        return 31;
+    result = callcontrol_channel_ask(rooms, sizeof rooms, 2, 21, CALLCONTROL_ASKED_OWN_GROUP, out,
+                                     sizeof out);
+    if (callcontrol_count_of(result) != CALLCONTROL_HEAD_SIZE || rooms[CALLCONTROL_ROOM_AT_WAIT] != 2
+        || rooms[CALLCONTROL_ROOM_AT_NUMBER] != 2 || rooms[CALLCONTROL_ROOM_AT_CALL] != 21)
+        return 32;
+    result = callcontrol_channel_decide(rooms, sizeof rooms, 2, CALLCONTROL_SETUP_RESPONDED, out,
+                                        sizeof out);
+    if (callcontrol_answer_of(result) != CALLCONTROL_NONE_WAITS)
+        return 33;
+    result = callcontrol_channel_ended(rooms, sizeof rooms, 21, out, sizeof out);
+    return callcontrol_count_of(result) == 7 && out[6] == CALLCONTROL_REJECT ? 0 : 34;
+}
+
 int main(void)
 {
     uint8_t call[CALLCONTROL_RECORD_SIZE];
@@ -81,5 +104,7 @@ int main(void)
     if (callcontrol_answer_of(result) != CALLCONTROL_BAD_BODY || callcontrol_place_of(result) != 8
         || callcontrol_count_of(result) != 0)
         return 9;
+    if (answers_questions() != 0)
+        return answers_questions();
     return reads_pieces();
 }

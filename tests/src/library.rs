@@ -9,6 +9,8 @@ pub mod bank;
 #[cfg(bridged)]
 mod bridge;
 #[cfg(not(bridged))]
+pub mod channel;
+#[cfg(not(bridged))]
 pub mod console;
 #[cfg(not(bridged))]
 mod direct;

@@ -25,6 +25,13 @@ pub enum Function {
     // Table as the record, beside the slices the place.
     ConsoleFresh = 12,
     ConsoleStep = 13,
+    // Rooms as the record, and as the input a number and a call, each u16, and what is asked or
+    // decided or what the step returned, u32.
+    ChannelFresh = 20,
+    ChannelAsk = 21,
+    ChannelPdu = 22,
+    ChannelDecide = 23,
+    ChannelEnded = 24,
     // A run of steps, each from the record that the last one gave. The input is whole event records
     // one after another, for a console each behind its place; the buffer gets for each its word, the
     // record after it and its messages, as long as there is room; beside them stands how many bytes
@@ -62,6 +69,11 @@ impl Function {
         Function::BankAdvance,
         Function::ConsoleFresh,
         Function::ConsoleStep,
+        Function::ChannelFresh,
+        Function::ChannelAsk,
+        Function::ChannelPdu,
+        Function::ChannelDecide,
+        Function::ChannelEnded,
         Function::Play,
         Function::ConsolePlay,
         Function::DirectFresh,
@@ -110,6 +122,21 @@ impl Function {
             _ => 1,
         }
     }
+}
+
+/// Number, call, and what is asked, decided or was returned, as a channel function gets them.
+pub fn channel_input(number: u16, call: u16, value: u32) -> [u8; 8] {
+    let mut input = [0; 8];
+    input[..2].copy_from_slice(&number.to_le_bytes());
+    input[2..4].copy_from_slice(&call.to_le_bytes());
+    input[4..].copy_from_slice(&value.to_le_bytes());
+    input
+}
+
+pub fn channel_numbers(input: &[u8]) -> (u16, u16, u32) {
+    let number = u16::from_le_bytes([input[0], input[1]]);
+    let call = u16::from_le_bytes([input[2], input[3]]);
+    (number, call, u32::from_le_bytes([input[4], input[5], input[6], input[7]]))
 }
 
 /// Where a slice lies while the library has it.

@@ -109,6 +109,7 @@ fn the_headers_sizes_are_the_librarys() {
     for (function, name) in [
         (Function::Fresh, "CALLCONTROL_RECORD_SIZE"),
         (Function::ConsoleFresh, "CALLCONTROL_TABLE_SIZE"),
+        (Function::ChannelFresh, "CALLCONTROL_ROOMS_SIZE"),
     ] {
         let bytes = vec![0xEE; defined(name) as usize];
         let said =
@@ -116,6 +117,7 @@ fn the_headers_sizes_are_the_librarys() {
                 &Request::of(function, &bytes, &[], 0, 0x11),
                 |bytes, _, _| match function {
                     Function::Fresh => boundary::fresh(bytes),
+                    Function::ChannelFresh => callcontrol_tests::account::channel::fresh(bytes),
                     _ => callcontrol_tests::account::console::fresh(bytes),
                 },
             );

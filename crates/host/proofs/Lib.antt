@@ -4,6 +4,10 @@ pub mod BankBytes
 pub mod BankDetermined
 pub mod BankPacking
 pub mod BankRuns
+pub mod ChannelAnswers
+pub mod ChannelDetermined
+pub mod ChannelPacking
+pub mod ChannelRuns
 pub mod Determined
 pub mod Packing
 pub mod Runs

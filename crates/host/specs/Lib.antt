@@ -6,3 +6,5 @@ pub mod SerialLine
 pub mod Bank
 pub mod BankLaws
 pub mod BankRuns
+pub mod Channel
+pub mod ChannelLaws

@@ -10,6 +10,7 @@ ghost use Rattle.host.specs.Entries.{Left, freshened, hostStep, readWord
 
 mod bank;
 pub mod packed;
+mod rooms;
 mod serial;
 
 use crate::packed::held;

@@ -43,7 +43,7 @@ fn path_is(n: u8) -> Path
     }
 }
 
-fn word_at(s: &[u8], at: usize) -> u16
+pub fn word_at(s: &[u8], at: usize) -> u16
     requires { ⌜ at + 2 ≤ length (now s) ⌝ }
     ensures { λ r. ⌜ r ≡ number 2 (now (s .entry)) at ⌝ }
 {

@@ -9,6 +9,7 @@
 pub mod bank;
 pub mod boundary;
 pub mod call;
+pub mod channel;
 pub mod console;
 pub mod direct;
 pub mod history;

@@ -1,6 +1,7 @@
 //! The library linked into this process.
 
 use super::bank;
+use super::channel;
 use super::console;
 use super::direct_mode;
 use super::small;
@@ -131,6 +132,23 @@ fn call(function: Function, number: u32, [record, input, out]: [&mut [u8]; 3]) -
         Function::BankAdvance => bank::advance(record, number, bank::numbers(out)),
         Function::ConsoleFresh => console::fresh(record),
         Function::ConsoleStep => console::step(record, number as u8, input, out),
+        Function::ChannelFresh => channel::fresh(record),
+        Function::ChannelAsk => {
+            let (number, call, asked) = request::channel_numbers(input);
+            channel::ask(record, number, call, asked as u8, out)
+        }
+        Function::ChannelPdu => {
+            let (number, call, result) = request::channel_numbers(input);
+            channel::pdu(record, number, call, result, out)
+        }
+        Function::ChannelDecide => {
+            let (number, _, decision) = request::channel_numbers(input);
+            channel::decide(record, number, decision as u8, out)
+        }
+        Function::ChannelEnded => {
+            let (_, call, _) = request::channel_numbers(input);
+            channel::ended(record, call, out)
+        }
         Function::Play => play(record, input, out, number, false, |record, _, event, lent| {
             step(record, event, lent)
         }),
