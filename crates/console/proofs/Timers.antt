@@ -1,4 +1,4 @@
--- Request 10 at each place: from the step's claims over the turns that the place has.
+-- Timers at each place: from the step's claims over the turns that the place has.
 use Prim.Native.Nat.{ℕ, _<_}
 use mathlib.Core.Path.{_≡_, refl, sym, _∙_, ap}
 use mathlib.Core.Bool.{Bool, cond}
@@ -13,6 +13,7 @@ use Rattle.callcontrol.specs.declared.call.Call.{Call}
 use Rattle.callcontrol.specs.Call.{freshCall, isIdle}
 use Rattle.callcontrol.specs.Step.{Outcome}
 use Rattle.demands.specs.Runs.{Turn, outcome, run}
+use Rattle.demands.specs.Clocks.{logIn, runningBy}
 use Rattle.demands.specs.Demands.{AtMostOne}
 use Rattle.demands.proofs.Turns.{accepts}
 use Rattle.demands.proofs.Demands as step-demands
@@ -20,11 +21,12 @@ use Rattle.console.specs.declared.route.Aim.{Aim}
 use Rattle.console.specs.declared.route.Route.{Route}
 use Rattle.console.specs.Table.{freshTable}
 use Rattle.console.specs.Route.{aimOf, atNamed, routeOf}
-use Rattle.console.specs.Console.{refusesAt}
+use Rattle.console.specs.Console.{refusesAt, refuses}
 use Rattle.console.specs.Runs.{ConsoleTurn, consoleOutcome, consoleRun, lentBehind, wentTo, wentIn}
 use Rattle.console.specs.Demands as claims
 use Rattle.console.proofs.Answering.{answers-in-run, behind-five}
 use Rattle.console.proofs.Demands.{table-sound, records, split, went-append, went-one, refuses-whole, place-only-with-four}
+use Rattle.console.proofs.Heard.{messages-at}
 use Rattle.console.proofs.Turns.{run-append}
 use Rattle.console.proofs.Went.{went-routed}
 
@@ -59,14 +61,19 @@ module _ (ts : List ConsoleTurn) (t : ConsoleTurn) (e : Event) (lt : t .place < 
   answer-there : consoleOutcome (claims.after ts) t .answer ≡ outcome (run freshCall (claims.turnsAt (t .place) ts)) (lentBehind 0 t) .answer
   answer-there = answers-in-run ts t e (t .place) reads to-it
 
+refused-6 : (ts : List ConsoleTurn) (t : ConsoleTurn) → consoleOutcome (claims.after ts) t .answer ≡ 6
+    → consoleOutcome (claims.after ts) t ≡ refuses 6 (claims.after ts) (t .buffer)
+refused-6 ts t six =
+    refuses-whole (claims.after ts) t 6 six (λ z. omega arith)
+    ∙ ap (λ (p : ℕ). refusesAt 6 p (claims.after ts) (t .buffer)) (place-only-with-four (claims.after ts) t (λ four. omega arith))
+
 pub late-expiry-at : claims.LateExpiryAt
 late-expiry-at ts t n lt reads late =
     let calls = claims.after ts in
     let six : consoleOutcome calls t .answer ≡ 6 =
     answer-there ts t (Event.Expiry n) lt reads refl
     ∙ ap (λ (o : Outcome). o .answer) (step-demands.late-expiry (claims.turnsAt (t .place) ts) (lentBehind 0 t) n reads late) in
-    refuses-whole calls t 6 six (λ z. omega arith)
-    ∙ ap (λ (p : ℕ). refusesAt 6 p calls (t .buffer)) (place-only-with-four calls t (λ four. omega arith))
+    refused-6 ts t six
 
 pub due-expiry-at : claims.DueExpiryAt
 due-expiry-at ts t n lt reads runs lent =
@@ -96,3 +103,32 @@ release-leaves-fresh-at ts us t u lt same asks between lapses room room′ =
     records (ts ++ t ∷ (us ++ u ∷ [])) k lt
     ∙ ap (λ (z : List Turn). run freshCall z) turns
     ∙ step-demands.release-leaves-fresh (claims.turnsAt k ts) v w asks lapses (behind-five (t .buffer) room) (behind-five (u .buffer) room′)
+
+-- ---- calls end by their timers alone, and T310 code 0
+
+pub at-most-three-due-at : claims.AtMostThreeDueAt
+at-most-three-due-at ts us k h = step-demands.at-most-three-due (claims.turnsAt k ts) (wentIn k (claims.after ts) us) h
+
+pub none-after-three-at : claims.NoneAfterThreeAt
+none-after-three-at ts us k h three =
+    ap (λ (z : List Turn). runningBy (logIn freshCall z)) (went-append k freshTable ts us)
+    ∙ step-demands.none-after-three (claims.turnsAt k ts) (wentIn k (claims.after ts) us) h three
+
+pub none-runs-at : claims.NoneRunsAt
+none-runs-at ts k lt h = rw (records ts k lt) (step-demands.none-runs (claims.turnsAt k ts) h)
+
+pub starts-with-limit-at : claims.StartsWithLimitAt
+starts-with-limit-at ts k lt = rw (messages-at ts k lt) (step-demands.starts-with-limit freshCall (claims.turnsAt k ts))
+
+pub no-limit-no-expiry-at : claims.NoLimitNoExpiryAt
+no-limit-no-expiry-at ts t lt h reads =
+    let calls = claims.after ts in
+    let six : consoleOutcome calls t .answer ≡ 6 =
+    answer-there ts t (Event.Expiry 310) lt reads refl
+    ∙ ap (λ (o : Outcome). o .answer)
+    (step-demands.no-limit-no-expiry (claims.turnsAt (t .place) ts) (lentBehind 0 t) (ap (λ (c : Call). c .code) (sym (records ts (t .place) lt)) ∙ h) reads) in
+    refused-6 ts t six
+
+pub no-info-over-speech-at : claims.NoInfoOverSpeechAt
+no-info-over-speech-at ts t k v i r o d s lt on went h =
+    step-demands.no-info-over-speech (claims.turnsAt k ts) v i r o d s on (rw (records ts k lt) at h)

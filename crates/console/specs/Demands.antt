@@ -1,14 +1,14 @@
 -- What holds of every run of the console from eight fresh records, and some of it of every table, as types. proofs/Demands, Answering, Heard and Timers have a proof of each.
 use Prim.Native.Nat.{ℕ, _<_, _≤_}
 use mathlib.Core.Path.{_≡_}
-use mathlib.Core.Bool.{Bool, true, false, cond, not}
+use mathlib.Core.Bool.{Bool, true, false, cond, not, _||_}
 use mathlib.Core.List.{List, [], _∷_, _++_}
 use mathlib.Core.Option.{some}
 use lib.Dec.{eqb}
 use lib.ListN.{length, take}
 use lib.Seq.{sets}
 use Rattle.records.specs.declared.events.Event.{Event}
-use Rattle.records.specs.declared.events.Event.the-variants.{ReleaseRequest, Break, Resume, DCallRestore, Expiry}
+use Rattle.records.specs.declared.events.Event.the-variants.{ReleaseRequest, DInfo, Break, Resume, DCallRestore, Expiry}
 use Rattle.records.specs.declared.messages.Message.{Message}
 use Rattle.records.specs.Tables.{taken, refused, read}
 use Rattle.records.specs.Events.{events}
@@ -17,10 +17,10 @@ use Rattle.callcontrol.specs.declared.call.Path.{Path}
 use Rattle.callcontrol.specs.declared.call.Call.{Call}
 use Rattle.callcontrol.specs.Call.{freshCall, isIdle, runs, T310}
 use Rattle.callcontrol.specs.Writing.{bytesOf}
-use Rattle.demands.specs.Runs.{Turn, outcome, run, takenBy, takenIn, writtenIn, told, ends, isUDisconnect, isURelease}
+use Rattle.demands.specs.Runs.{Turn, outcome, run, takenBy, takenIn, writtenIn, every?, told, ends, isUDisconnect, isURelease}
 use Rattle.demands.specs.Clocks.{logIn, runningBy, runsBy}
 use Rattle.demands.specs.History.{planeByHistory}
-use Rattle.demands.specs.Demands.{Reads, quiet, oneCall, count}
+use Rattle.demands.specs.Demands.{Reads, quiet, oneCall, count, OnlyDue, AtRest, limits}
 use Rattle.console.specs.declared.route.Aim.{Aim}
 use Rattle.console.specs.declared.route.Route.{Route}
 use Rattle.console.specs.Table.{callAt, freshTable, some?, tableSound}
@@ -236,3 +236,37 @@ DueExpiryAt =
     (ts : List ConsoleTurn) (t : ConsoleTurn) (n : ℕ) → t .place < 8 →
     read events (t .event) ≡ taken (Expiry n) →
     runsBy (logIn freshCall (turnsAt (t .place) ts)) n ≡ true → 37 ≤ length (t .buffer) → consoleOutcome (after ts) t .answer ≡ 0
+
+-- ---- calls end by their timers alone, T310 code 0, D-INFO over the own transmission: for each place
+
+-- of the turns that go to a place, in each of which an expiry of a timer that runs by its messages is handed in, there are at most three
+abbrev pub AtMostThreeDueAt : Type 0
+AtMostThreeDueAt =
+    (ts us : List ConsoleTurn) (k : ℕ) → OnlyDue (turnsAt k ts) (wentIn k (after ts) us) → length (wentIn k (after ts) us) ≤ 3
+
+-- and after three none runs there
+abbrev pub NoneAfterThreeAt : Type 0
+NoneAfterThreeAt =
+    (ts us : List ConsoleTurn) (k : ℕ) → OnlyDue (turnsAt k ts) (wentIn k (after ts) us) → length (wentIn k (after ts) us) ≡ 3 →
+    runningBy (logIn freshCall (turnsAt k (ts ++ us))) ≡ runningBy []
+
+-- where none runs the place is fresh, rings, or is connected without a limit
+abbrev pub NoneRunsAt : Type 0
+NoneRunsAt = (ts : List ConsoleTurn) (k : ℕ) → k < 8 → runningBy (logIn freshCall (turnsAt k ts)) ≡ runningBy [] → AtRest (at k ts)
+
+-- no place starts T310 with code 0
+abbrev pub StartsWithLimitAt : Type 0
+StartsWithLimitAt = (ts : List ConsoleTurn) (k : ℕ) → k < 8 → every? limits (heardIn k freshTable ts) ≡ true
+
+-- and where it holds code 0 an expiry of T310 is refused with 6 and changes nothing
+abbrev pub NoLimitNoExpiryAt : Type 0
+NoLimitNoExpiryAt =
+    (ts : List ConsoleTurn) (t : ConsoleTurn) → t .place < 8 →
+    at (t .place) ts .code ≡ 0 → read events (t .event) ≡ taken (Expiry 310) → consoleOutcome (after ts) t ≡ refuses 6 (after ts) (t .buffer)
+
+-- while a place transmits, no turn takes D-INFO there
+abbrev pub NoInfoOverSpeechAt : Type 0
+NoInfoOverSpeechAt =
+    (ts : List ConsoleTurn) (t : ConsoleTurn) (k : ℕ) (v : Turn) (i r o d s : ℕ) → k < 8 →
+    (eqb (told (turnsAt k ts)) 1 || eqb (told (turnsAt k ts)) 3) ≡ true →
+    wentTo k (after ts) t ≡ v ∷ [] → takenBy (at k ts) v ≡ some (DInfo i r o d s) → ⊥

@@ -1,4 +1,4 @@
--- Every step gives the lowest answer that applies; a refusal gives the record back and writes nothing; what is taken gives the
+-- Every step gives the first answer that applies; a refusal gives the record back and writes nothing; what is taken gives the
 -- record and the bytes of the event's row.
 use Prim.Native.Nat.{ℕ}
 use mathlib.Core.Path.{_≡_, refl, sym, _∙_, ap}
@@ -22,7 +22,7 @@ use Rattle.demands.specs.Demands.{wrongLength, noKind, retiredKind, badB
 use Rattle.demands.proofs.Reading.{Reads, bad-length, no-kind, retired, bad-body, is, reads}
 use Rattle.demands.proofs.Turns.{byTests, Accepted, Turned, passed, took, turned, accepts}
 
--- ---- the lowest answer
+-- ---- the first answer
 
 module _ (c : Call) (buffer : List ℕ) where
   event-answered : (other row over room : Bool) (d : Draft) → byTests other row over room c d buffer .answer ≡ cond other 5 (cond (not row) 6 (cond over 8 (cond (not room) 7 0)))

@@ -25,6 +25,8 @@ use Rattle.demands.proofs.Examples as Examples
 use Rattle.demands.proofs.Tracked as Tracked
 use Rattle.demands.proofs.Once as Once
 use Rattle.demands.proofs.Expiries as Expiries
+use Rattle.demands.proofs.Lapses as Lapses
+use Rattle.demands.proofs.Limits as Limits
 
 -- ---- demand 1
 
@@ -116,6 +118,9 @@ enough-32 = Bound.enough-32
 pub at-most-52 : claims.AtMost52
 at-most-52 = Bound.at-most-52
 
+pub writes-52 : claims.Writes52
+writes-52 = Examples.writes-52
+
 -- ---- demand 3
 
 pub told-by-history : claims.Told
@@ -180,3 +185,27 @@ late-expiry = Expiries.late-expiry
 
 pub due-expiry : claims.DueExpiry
 due-expiry = Expiries.due-expiry
+
+-- ---- calls end by their timers alone
+
+pub at-most-three-due : claims.AtMostThreeDue
+at-most-three-due = Lapses.at-most-three-due
+
+pub none-after-three : claims.NoneAfterThree
+none-after-three = Lapses.none-after-three
+
+pub none-runs : claims.NoneRuns
+none-runs = Lapses.none-runs
+
+-- ---- T310 code 0
+
+pub starts-with-limit : claims.StartsWithLimit
+starts-with-limit = Limits.starts-with-limit
+
+pub no-limit-no-expiry : claims.NoLimitNoExpiry
+no-limit-no-expiry = Lapses.no-limit-no-expiry
+
+-- ---- no change of service over a speaker
+
+pub no-info-over-speech : claims.NoInfoOverSpeech
+no-info-over-speech = Identified.no-info-over-speech

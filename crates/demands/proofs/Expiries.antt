@@ -104,7 +104,7 @@ late-row c n h = by-cell (cell c (Expiry n))
     by-cell no-row = refl
     by-cell (row r) = apart (row-runs r) h
 
-by-messages : (ts : List Turn) (n : ℕ) → runsBy (logIn freshCall ts) n ≡ runs (run freshCall ts) (place n)
+pub by-messages : (ts : List Turn) (n : ℕ) → runsBy (logIn freshCall ts) n ≡ runs (run freshCall ts) (place n)
 by-messages ts n = ap (λ (f : List Bool). getD f (place n) false) (timers-by-messages ts)
 
 pub late-expiry : LateExpiry

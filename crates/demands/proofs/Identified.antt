@@ -7,6 +7,7 @@ use mathlib.Core.List.{List, [], _∷_, _++_}
 use borrow.Author.Tests.{eqb-true}
 use lib.Dec.{eqb}
 use Rattle.records.specs.declared.events.Event.{Event}
+use Rattle.records.specs.declared.events.Event.the-variants.{DInfo}
 use Rattle.callcontrol.specs.declared.call.State.{State}
 use Rattle.callcontrol.specs.declared.call.Path.{Path}
 use Rattle.callcontrol.specs.declared.call.Call.{Call}
@@ -17,12 +18,12 @@ use Rattle.callcontrol.specs.Rows
 use Rattle.callcontrol.proofs.Verbs.{verbs}
 use Rattle.demands.specs.Runs.{Turn, outcome, next, run, takenBy, listed, takenIn, told}
 use Rattle.demands.specs.History.{noteId, readsId, idByHistory}
-use Rattle.demands.specs.Demands.{Kept, Identified, Transmits}
+use Rattle.demands.specs.Demands.{Kept, Identified, Transmits, NoInfoOverSpeech}
 use Rattle.demands.proofs.Facts.{apart}
 use Rattle.demands.proofs.ByRow.{Live, calling, called, talking, waiting, Row, is-row}
 use Rattle.demands.proofs.Cases.{by-plane, by-restart, by-grant, by-grantOrOff}
 use Rattle.demands.proofs.Situations.{At, idle, situated}
-use Rattle.demands.proofs.Turns.{Turned, passed, took, turned}
+use Rattle.demands.proofs.Turns.{Turned, passed, took, turned, accepts}
 use Rattle.demands.proofs.Sound.{fresh-is-sound, step-keeps-sound, always}
 use Rattle.demands.proofs.Places.{plane-on}
 use Rattle.demands.proofs.Told.{told-is-plane}
@@ -135,3 +136,8 @@ pub transmits : Transmits
 transmits ts on =
     let p = plane-on (run freshCall ts) (always ts .meets) (rw (told-is-plane ts) at (transmitting (told ts) (eqb (told ts) 1) refl on)) in
     (p .0, p .1, identified ts (rw (p .0)), p .2)
+
+-- D-INFO then is refused with 8 at the latest
+pub no-info-over-speech : NoInfoOverSpeech
+no-info-over-speech ts t i r o d s on h =
+    apart (rw (told-is-plane ts) at on) (accepts (run freshCall ts) t (DInfo i r o d s) h .silent)

@@ -12,6 +12,8 @@ pub mod Expiries
 pub mod Facts
 pub mod Follows
 pub mod Identified
+pub mod Lapses
+pub mod Limits
 pub mod Once
 pub mod Places
 pub mod Ranges

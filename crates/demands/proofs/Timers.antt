@@ -136,7 +136,7 @@ lapsed (t303 e) any = disconnect
 lapsed (t306 e) any = disconnect
 lapsed (t310 e) any = disconnect
 
-row-clocked : {c : Call} {s : State} {w : Path} {e : Event} {x : Draft} → Row c s w e x → Timed s w c → Clocked (x .call)
+pub row-clocked : {c : Call} {s : State} {w : Path} {e : Event} {x : Draft} → Row c s w e x → Timed s w c → Clocked (x .call)
 unfolding verbs Rows.disconnected Rows.released Rows.confirmed
 row-clocked (Row.releases l) v = releasing (any-of v)
 row-clocked (Row.disconnects l i) v = idle

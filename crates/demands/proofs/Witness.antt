@@ -1,5 +1,6 @@
 -- The calls of the witness go as its lines say, by computing.
 use mathlib.Core.Path.{refl}
+use lib.Dec.{lit≤}
 use Rattle.demands.specs.Demands.{wrongLength, noKind, retiredKind, bodyFits, badBody, applies, restores, quiet, oneCall}
 use Rattle.demands.specs.Runs.{isUDisconnect, isURelease}
 use Rattle.demands.specs.Clocks.{logIn, place, noteMessage, noteMessages, noteExpiry, noteLog, runningBy}
@@ -16,6 +17,8 @@ witness =
       tells = (refl, (refl, (refl, (refl, (refl, tt)))));
       holds = (refl, (refl, (refl, (refl, (refl, (refl, (refl, (refl, tt))))))));
       lowest = refl;
-      timers = (refl, (refl, (refl, (refl, (refl, (refl, (refl, (refl, (refl, (refl, (refl, (refl, (refl, tt)))))))))))));
+      timers = (refl, (refl, (refl, (refl, (refl, (refl, (refl, (refl, (refl, (refl, (refl, (refl, (refl, (refl, tt))))))))))))));
       collides = record { whole = refl; disconnects = refl; releases = refl };
+      eight = record { eight = refl; seven = refl; given = refl };
+      three = (311, refl, refl, lit≤ tt, (310, refl, refl, lit≤ tt, (308, refl, refl, lit≤ tt, tt)));
     }

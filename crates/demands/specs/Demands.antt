@@ -10,6 +10,7 @@ use lib.Seq.{sets}
 use Rattle.records.specs.declared.events.Event.{Event}
 use Rattle.records.specs.declared.events.Event.the-variants.{SetupRequest, SetupResponse, ReleaseRequest, TxRequest, DCallProceeding, DAlert, DConnect, DConnectAcknowledge, DSetup, DInfo, DTxGranted, DTxCeased, DTxInterrupt, DTxWait, DTxContinue, DCallRestore, DDisconnect, DRelease, ReportSent, ReportFailed, Break, Resume, Expiry}
 use Rattle.records.specs.declared.messages.Message.{Message}
+use Rattle.records.specs.declared.messages.Message.the-variants.{USetup, UConnect, UDisconnect, URelease, UInfo, UTxDemand, UTxCeased, UCallRestore, Stop, Start, Configure, Cancel, Place, ChannelAnswer, SetupIndication, SetupConfirm, Proceed, Alert, Complete, ReleaseIndication, ReleaseConfirm, TxIndication, ModifyIndication}
 use Rattle.records.specs.Bytes.{number}
 use Rattle.records.specs.Bodies.{size, numbersAt, allFit}
 use Rattle.records.specs.Tables.{Read, taken, refused, listed, known, find, read, fine}
@@ -28,7 +29,7 @@ use Rattle.demands.specs.Examples.{turn, setupRequest, dConnect}
 use Rattle.demands.specs.Clocks.{logIn, runningBy, runsBy}
 use Rattle.demands.specs.History.{planeByHistory, idByHistory, slotsByHistory, carryNone}
 
--- Demand 1: every turn gets an answer; the lowest number that applies; a refusal writes no byte and gives the record back
+-- Demand 1: every turn gets an answer, the first that applies in the order 1 2 3 9 4 5 6 8 7; a refusal writes no byte and gives the record back
 
 -- 2: under 4 bytes, or a length field that differs from the bytes
 unfoldable pub wrongLength : List ℕ → Bool
@@ -203,6 +204,27 @@ Enough32 = (ts : List Turn) (t : Turn) → 32 ≤ length (t .buffer) → outcome
 abbrev pub AtMost52 : Type 0
 AtMost52 = (c : Call) (t : Turn) → Kept c → outcome c t .count ≤ 52
 
+-- and one such record reaches it, out of reach of a run: plane 1 with every timer but T306 running, where D-DISCONNECT stops six
+abbrev pub widest : Call
+widest =
+    record {
+      state = State.CallActive;
+      id = 21;
+      address = 0;
+      mode = 0;
+      asked = 0;
+      sent = 0;
+      path = Path.Up;
+      plane = 1;
+      kept = 4;
+      code = 3;
+      slots = 1;
+      timers = true ∷ true ∷ true ∷ false ∷ true ∷ true ∷ true ∷ [];
+    }
+
+abbrev pub Writes52 : Type 0
+Writes52 = Kept widest × (outcome widest (turn (6 ∷ 0 ∷ 13 ∷ 2 ∷ 21 ∷ 0 ∷ []) 52) .count ≡ 52)
+
 -- Demand 3, told: what the lower layers were last told is what the history rule reads from the taken events alone, and is the plane of the record
 
 abbrev pub Told : Type 0
@@ -374,3 +396,78 @@ DueExpiry =
     (ts : List Turn) (t : Turn) (n : ℕ) →
     read events (t .event) ≡ taken (Expiry n) →
     runsBy (logIn freshCall ts) n ≡ true → 32 ≤ length (t .buffer) → takenBy (run freshCall ts) t ≡ some (Expiry n)
+
+-- Calls end by their timers alone
+
+-- some turns after others, in each of which an expiry of a timer that runs by the messages is handed in, whichever of them, with 32 bytes lent
+abbrev pub OnlyDue : List Turn → List Turn → Type 0
+OnlyDue ts [] = Unit {0}
+OnlyDue ts (u ∷ us) =
+    (n : ℕ)
+    × (read events (u .event) ≡ taken (Expiry n))
+    × (runsBy (logIn freshCall ts) n ≡ true)
+    × (32 ≤ length (u .buffer))
+    × OnlyDue (ts ++ u ∷ []) us
+
+-- there are at most three of them, and after three no timer runs
+abbrev pub AtMostThreeDue : Type 0
+AtMostThreeDue = (ts us : List Turn) → OnlyDue ts us → length us ≤ 3
+
+abbrev pub NoneAfterThree : Type 0
+NoneAfterThree = (ts us : List Turn) → OnlyDue ts us → length us ≡ 3 → runningBy (logIn freshCall (ts ++ us)) ≡ runningBy []
+
+-- a record that waits for no timer: fresh; or it rings, MT-CALL-SETUP before the response; or it is connected without a limit, T310 code 0
+pub data AtRest (c : Call) : Type 0 where
+  over : c ≡ freshCall → AtRest c
+  rings : c .state ≡ State.MtCallSetup → runs c T301 ≡ false → AtRest c
+  talks : c .state ≡ State.CallActive → c .code ≡ 0 → AtRest c
+  pauses : c .state ≡ State.Wait → c .code ≡ 0 → AtRest c
+
+-- and where none runs the record is at rest so
+abbrev pub NoneRuns : Type 0
+NoneRuns = (ts : List Turn) → runningBy (logIn freshCall ts) ≡ runningBy [] → AtRest (run freshCall ts)
+
+-- T310 code 0
+
+-- START of T310 has a code above 0
+unfoldable pub limits : Message → Bool
+limits (USetup a d q s) = true
+limits (UConnect i) = true
+limits (UDisconnect i c) = true
+limits (URelease i) = true
+limits (UInfo i d) = true
+limits (UTxDemand i) = true
+limits (UTxCeased i) = true
+limits (UCallRestore i a q) = true
+limits (Stop n) = true
+limits (Start n o) = not (eqb n 310 && eqb o 0)
+limits (Configure plane) = true
+limits Cancel = true
+limits (Place at) = true
+limits (ChannelAnswer n v) = true
+limits (SetupIndication i a d) = true
+limits (SetupConfirm i g) = true
+limits Proceed = true
+limits Alert = true
+limits (Complete g) = true
+limits (ReleaseIndication c) = true
+limits ReleaseConfirm = true
+limits (TxIndication x) = true
+limits (ModifyIndication d s) = true
+
+-- no turn, from any record, starts T310 with code 0
+abbrev pub StartsWithLimit : Type 0
+StartsWithLimit = (c : Call) (ts : List Turn) → every? limits (writtenIn c ts) ≡ true
+
+-- with code 0 held an expiry of T310 is refused with 6 and changes nothing
+abbrev pub NoLimitNoExpiry : Type 0
+NoLimitNoExpiry =
+    (ts : List Turn) (t : Turn) →
+    run freshCall ts .code ≡ 0 →
+    read events (t .event) ≡ taken (Expiry 310) → outcome (run freshCall ts) t ≡ refusal 6 (run freshCall ts) (t .buffer)
+
+-- No change of service over a speaker: while the set transmits (told 1 or 3), no turn takes D-INFO
+abbrev pub NoInfoOverSpeech : Type 0
+NoInfoOverSpeech =
+    (ts : List Turn) (t : Turn) (i r o d s : ℕ) →
+    (eqb (told ts) 1 || eqb (told ts) 3) ≡ true → takenBy (run freshCall ts) t ≡ some (DInfo i r o d s) → ⊥

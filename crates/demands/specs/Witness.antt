@@ -15,7 +15,7 @@ use Rattle.callcontrol.specs.declared.call.Call.{Call}
 use Rattle.callcontrol.specs.Call.{freshCall, stateNumber, pathNumber, _⇒_}
 use Rattle.callcontrol.specs.Step.{Outcome}
 use Rattle.demands.specs.Runs.{Turn, outcome, next, run, takenBy, writtenBy, writtenIn, isUDisconnect, isURelease, told, ends}
-use Rattle.demands.specs.Demands.{quiet, applies, oneCall, count}
+use Rattle.demands.specs.Demands.{quiet, applies, oneCall, count, OnlyDue}
 use Rattle.demands.specs.Clocks.{logIn, runningBy}
 
 -- 64 bytes are lent
@@ -133,6 +133,24 @@ slotted =
     ∷ line (6 ∷ 0 ∷ 14 ∷ 2 ∷ 21 ∷ 0 ∷ []) 0 0 0 4 true
     ∷ []
 
+-- D-INFO over the own transmission is refused, also with T310's reset; after it the same one is taken
+abbrev pub speaking : List Line
+speaking =
+    line (10 ∷ 0 ∷ 1 ∷ 1 ∷ 7 ∷ 0 ∷ 0 ∷ 0 ∷ 0 ∷ 1 ∷ []) 0 1 0 4 false
+    ∷ line (9 ∷ 0 ∷ 3 ∷ 2 ∷ 21 ∷ 0 ∷ 0 ∷ 0 ∷ 3 ∷ []) 0 3 0 1 false
+    ∷ line (9 ∷ 0 ∷ 6 ∷ 2 ∷ 21 ∷ 0 ∷ 1 ∷ 5 ∷ 1 ∷ []) 8 3 0 1 false
+    ∷ line (6 ∷ 0 ∷ 1 ∷ 4 ∷ 55 ∷ 1 ∷ []) 0 3 0 4 false
+    ∷ line (9 ∷ 0 ∷ 6 ∷ 2 ∷ 21 ∷ 0 ∷ 1 ∷ 5 ∷ 1 ∷ []) 0 3 0 4 false
+    ∷ []
+
+-- a duplex call without a limit: it transmits, and no timer runs; an expiry of T310 is refused
+abbrev pub unlimited : List Line
+unlimited =
+    line (10 ∷ 0 ∷ 1 ∷ 1 ∷ 7 ∷ 0 ∷ 0 ∷ 0 ∷ 1 ∷ 1 ∷ []) 0 1 0 4 false
+    ∷ line (9 ∷ 0 ∷ 3 ∷ 2 ∷ 21 ∷ 0 ∷ 0 ∷ 1 ∷ 0 ∷ []) 0 3 0 3 false
+    ∷ line (6 ∷ 0 ∷ 1 ∷ 4 ∷ 54 ∷ 1 ∷ []) 6 3 0 3 false
+    ∷ []
+
 -- two records are the same, by all their places
 unfoldable pub flags : List Bool → List ℕ
 flags [] = []
@@ -167,7 +185,7 @@ goesSo ts (l ∷ ls) =
     && goesSo (ts ++ turn (l .event) ∷ []) ls
 
 abbrev pub stories : List (List Line)
-stories = outgoing ∷ incoming ∷ lost ∷ unsent ∷ takenBack ∷ colliding ∷ slotted ∷ []
+stories = outgoing ∷ incoming ∷ lost ∷ unsent ∷ takenBack ∷ colliding ∷ slotted ∷ speaking ∷ unlimited ∷ []
 
 -- one story after the other
 abbrev pub allGoSo : List (List Line) → Bool
@@ -332,6 +350,7 @@ clocks =
     ∷ clock colliding 3 (308 ∷ [])
     ∷ clock colliding 5 []
     ∷ clock colliding 7 (301 ∷ [])
+    ∷ clock unlimited 3 []
     ∷ []
 
 -- one call writes as many of each as it may: U-DISCONNECT with the RELEASE request, U-RELEASE with the D-DISCONNECT
@@ -339,6 +358,18 @@ pub record Collides : Type 0 where
   pub whole : oneCall freshCall (take 4 (turnsOf colliding)) ≡ true
   pub disconnects : count isUDisconnect (writtenIn freshCall (take 4 (turnsOf colliding))) ≡ 1
   pub releases : count isURelease (writtenIn freshCall (take 4 (turnsOf colliding))) ≡ 1
+
+-- 8 and 7 apply at once, and 8 is given: D-INFO over the own transmission with no byte lent
+pub record EightBeforeSeven : Type 0 where
+  pub eight : applies 8 (run freshCall (take 2 (turnsOf speaking))) (9 ∷ 0 ∷ 6 ∷ 2 ∷ 21 ∷ 0 ∷ 1 ∷ 5 ∷ 1 ∷ []) [] ≡ true
+  pub seven : applies 7 (run freshCall (take 2 (turnsOf speaking))) (9 ∷ 0 ∷ 6 ∷ 2 ∷ 21 ∷ 0 ∷ 1 ∷ 5 ∷ 1 ∷ []) [] ≡ true
+  pub given : outcome (run freshCall (take 2 (turnsOf speaking))) (record { event = 9 ∷ 0 ∷ 6 ∷ 2 ∷ 21 ∷ 0 ∷ 1 ∷ 5 ∷ 1 ∷ []; buffer = [] }) .answer ≡ 8
+
+-- a call that needs three expiries: T311 ends its transmission, T310 the call, and T308 the release
+abbrev pub ThreeDue : Type 0
+ThreeDue =
+    OnlyDue (take 2 (turnsOf speaking))
+    (turn (6 ∷ 0 ∷ 1 ∷ 4 ∷ 55 ∷ 1 ∷ []) ∷ turn (6 ∷ 0 ∷ 1 ∷ 4 ∷ 54 ∷ 1 ∷ []) ∷ turn (6 ∷ 0 ∷ 1 ∷ 4 ∷ 52 ∷ 1 ∷ []) ∷ [])
 
 pub record Witness : Type 0 where
   pub lines : allGoSo stories ≡ true
@@ -349,3 +380,5 @@ pub record Witness : Type 0 where
   pub lowest : lowerGiven twices ≡ true
   pub timers : Each Shows clocks
   pub collides : Collides
+  pub eight : EightBeforeSeven
+  pub three : ThreeDue
