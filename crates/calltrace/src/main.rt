@@ -1,6 +1,7 @@
 // Reads event records from standard input and prints a line for what the step answers to each.
 ghost use mathlib.Core.Path.{_≡_};
 ghost use Prim.Native.Nat.{_+_, _<_, _≤_};
+ghost use mathlib.Core.Bool.{cond};
 ghost use lib.ListN.{length, take};
 ghost use Rattle.calltrace.specs.Line.{lineMost};
 ghost use Rattle.calltrace.specs.Trace.{CompleteIf};
@@ -35,35 +36,66 @@ struct InHand {
     laid: usize,
     // Whether the input has ended and its last line is laid.
     complete: bool,
+    // Whether a read that failed ended the input.
+    unread: bool,
+    // Whether a write that failed ended the trace.
+    unwritten: bool,
 }
 
-// Reads once behind the bytes that are held, and answers how many came: 0 at the end of the input, which an error ends too. The room
+// What a read came to.
+struct Came {
+    count: usize,
+    failed: bool,
+}
+
+// Reads once behind the bytes that are held: how many came, 0 at the end of the input, which an error ends too. The room
 // that is asked for tells the end of the input from a block that is full.
-fn read_behind(bytes: &mut [u8], held: usize) -> usize
+fn read_behind(bytes: &mut [u8], held: usize) -> Came
     requires { ⌜ held < length (now bytes) ⌝ }
-    ensures { λ r. ⌜ held + r ≤ length (now (bytes .entry)) ⌝ }
+    ensures { λ r. ⌜ held + r .count ≤ length (now (bytes .entry)) ⌝ }
     ensures { λ r. ⌜ take held (now (bytes .exit)) ≡ take held (now (bytes .entry)) ⌝ }
 {
     let room = &mut bytes[held..];
     let got = libc::read(STDIN_FILENO, room);
-    if got < 0 {
-        io::write_all(STDERR_FILENO, b"calltrace: standard input cannot be read\n");
+    let count = io::count(got, room);
+    Came {
+        count,
+        failed: got < 0,
     }
-    io::count(got, room)
 }
 
-// Writes the lines, and answers whether to go on.
-fn write_lines(lines: &[u8], laid: usize) -> bool
+// Writes the lines that are laid, and answers how many of their bytes the C library took: fewer than all where a write failed.
+fn write_lines(lines: &[u8], laid: usize) -> usize
     requires { ⌜ laid ≤ length (now lines) ⌝ }
+    ensures { λ r. ⌜ r ≤ laid ⌝ }
 {
-    if io::write_all(STDOUT_FILENO, &lines[..laid]) {
-        return true;
+    let mut done = 0;
+    while done < laid {
+        let part = &lines[done..laid];
+        let put = io::count(libc::write(STDOUT_FILENO, part), part);
+        if put == 0 {
+            return done;
+        }
+        done += put;
     }
-    io::write_all(
-        STDERR_FILENO,
-        b"calltrace: standard output cannot be written\n",
-    );
-    false
+    done
+}
+
+// How many of some bytes are to be written: all of them, or none.
+fn due_if(when: bool, size: usize) -> usize
+    ensures { λ r. ⌜ r ≡ cond when size 0 ⌝ }
+    ensures { λ r. ⌜ r ≤ size ⌝ }
+{
+    if when {
+        return size;
+    }
+    0
+}
+
+// Writes a complaint where something failed.
+fn complain_if(failed: bool, text: &[u8]) {
+    let due = due_if(failed, text.len());
+    io::write_all(STDERR_FILENO, &text[..due]);
 }
 
 // Writes every line but those in hand at the end. A proved loop has to end, and nothing says that the input does. So the loop counts its
@@ -91,15 +123,18 @@ fn trace(bytes: &mut [u8], lines: &mut [u8]) -> InHand
         let pause = drained.pause;
         match pause {
             Pause::Full => {
-                if !write_lines(lines, laid) {
+                let done = write_lines(lines, laid);
+                if done < laid {
                     return InHand {
                         read,
                         written,
                         laid,
                         complete: false,
+                        unread: false,
+                        unwritten: true,
                     };
                 }
-                written += laid;
+                written += done;
                 laid = 0;
             }
             Pause::Short => {
@@ -109,23 +144,27 @@ fn trace(bytes: &mut [u8], lines: &mut [u8]) -> InHand
                     written,
                     laid: end,
                     complete: true,
+                    unread: false,
+                    unwritten: false,
                 };
             }
             Pause::Cut => {
                 let rest = keep_rest(bytes, at, held);
                 let came = read_behind(bytes, rest);
-                read += came;
-                if came == 0 {
+                read += came.count;
+                if came.count == 0 {
                     let end = put_end(lines, laid, call, rest);
                     return InHand {
                         read,
                         written,
                         laid: end,
                         complete: true,
+                        unread: came.failed,
+                        unwritten: false,
                     };
                 }
                 at = 0;
-                held = rest + came;
+                held = rest + came.count;
             }
         }
     }
@@ -134,14 +173,22 @@ fn trace(bytes: &mut [u8], lines: &mut [u8]) -> InHand
         written,
         laid,
         complete: false,
+        unread: false,
+        unwritten: false,
     }
 }
 
+// The last lines are written where they are complete, and a complaint where a read or a write has failed: what is to be written is decided by
+// `due_if` alone.
 fn main() {
     let mut bytes = input_block();
     let mut lines = io::large_buffer();
     let last = trace(&mut bytes, &mut lines);
-    if last.complete {
-        write_lines(&lines, last.laid);
-    }
+    let due = due_if(last.complete, last.laid);
+    let done = write_lines(&lines, due);
+    complain_if(last.unread, b"calltrace: standard input cannot be read\n");
+    complain_if(
+        last.unwritten | (done < due),
+        b"calltrace: standard output cannot be written\n",
+    );
 }

@@ -9,7 +9,7 @@ use Rattle.calltrace.proofs.read_behind.Tie as tie
 
 returns : tie.Need-returns
 returns c =
-    let k = c .before .before .before .before .before .before .before in
+    let k = c .before .before .before .before .before .before in
     let s = k .before .before .before .before .args in
     (search needs, take-put (s .held) (length (s .bytes .now) - s .held) (s .bytes .now) (k .read .last .1 .0) (omega arith))
 
@@ -19,8 +19,6 @@ read-behind-spec =
     (tie.spec
     (λ c. search needs)
     (λ c. search needs)
-    (λ c. search needs)
-    (λ c κs. search needs)
     (λ c. search needs)
     (λ c κs. search needs)
     (λ c κs. search needs)

@@ -120,13 +120,14 @@ trace-spec =
     (λ c. let d = full-after (c .before .before .before) in omega (arith, laid-in d, lines-most d, l d .loop .inv .7))
     (λ c. omega arith)
     (λ c.
-    let d = full-after (c .before .before .before) in (
+    let d = full-after (c .before .before .before) in
+    let all : c .before .write-lines .result ≡ d .drain .result .laid = omega (arith, c .before .write-lines .ensures) in (
       l d .loop .inv .0,
       omega (arith, lines-kept d, l d .loop .inv .1),
       within d,
       l d .loop .inv .3,
       omega arith,
-      writes (length-take-le (d .drain .result .laid) (lines d) (laid-in d)) (underway d),
+      rw all (writes (length-take-le (d .drain .result .laid) (lines d) (laid-in d)) (underway d)),
       omega (arith, l d .loop .inv .6),
       omega (arith, laid-in d, lines-most d, l d .loop .inv .7),
     ))
@@ -152,47 +153,47 @@ trace-spec =
     let pause = pause-is d (k .before .before .enum-told3 .given .1) in
     omega (arith, rest-long d, pause .1, k .keep-rest .ensures .0, k .keep-rest .kept .0, l d .loop .inv .0, start d .pre .0 .0))
     (λ c.
-    let r = c .before .before .read-behind in
-    let d = cut-after (kept-after c .before .before) in
-    omega (arith, r .ensures .0, r .kept .0, bytes-kept c, start d .pre .0 .1, l d .loop .inv .6))
+    let r = c .before .before .before .read-behind in
+    let d = cut-after (kept-after (c .before) .before .before) in
+    omega (arith, r .ensures .0, r .kept .0, bytes-kept (c .before), start d .pre .0 .1, l d .loop .inv .6))
     (λ c κs.
-    let k = kept-after (c .before .before) in
+    let k = kept-after (c .before .before .before .before) in
     let d = cut-after (k .before .before) in
     let pause = pause-is d (k .before .before .enum-told3 .given .1) in
     omega (arith, lines-kept d, pause .2))
-    (λ c. bytes-kept (c .before .before .before .before .before))
+    (λ c. bytes-kept (c .before .before .before .before .before .before .before))
     (λ c.
-    let d = cut-after (kept-after (c .before .before .before .before .before) .before .before) in
+    let d = cut-after (kept-after (c .before .before .before .before .before .before .before) .before .before) in
     omega (arith, lines-kept d, same-lines d, c .before .before .put-end .kept .0))
     (λ c.
-    let k = kept-after (c .before .before .before .before .before) in
+    let k = kept-after (c .before .before .before .before .before .before .before) in
     let d = cut-after (k .before .before) in
     let p = c .before .before .put-end in
     let pause = pause-is d (k .before .before .enum-told3 .given .1) in
-    let none-came : c .before .before .before .before .before .before .before .read-behind .result ≡ 0 = c .before .before .before .before .if2 .taken in
+    let none-came : c .before .before .before .before .before .before .before .before .before .read-behind .result .count ≡ 0 = c .before .before .before .before .if2 .taken in
     let left : length (rest d) ≡ k .keep-rest .result = omega (arith, rest-long d, k .keep-rest .ensures .0) in (
       omega (arith, p .ensures .1, lines-kept d, same-lines d, pause .2),
       rw (none-came, add-zero) (ends (underway d) (rw left at (end-traced (rest d) (d .drain .result .call) (pause .0))) (p .ensures .0) (omega (arith, p .ensures .1, lines-kept d, pause .2))),
     ))
     (λ c.
-    let r = c .before .before .before .read-behind in
-    let s = start (cut-after (kept-after (c .before) .before .before)) in
-    omega (arith, r .ensures .0, r .kept .0, bytes-kept (c .before), block-fits s))
+    let r = c .before .before .before .before .before .before .read-behind in
+    let s = start (cut-after (kept-after (c .before .before .before .before) .before .before)) in
+    omega (arith, r .ensures .0, r .kept .0, bytes-kept (c .before .before .before .before), block-fits s))
     (λ c. omega arith)
     (λ c.
-    let r = c .before .before .before .read-behind in
-    let k = kept-after (c .before) in
+    let r = c .before .before .before .before .before .before .read-behind in
+    let k = kept-after (c .before .before .before .before) in
     let d = cut-after (k .before .before) in
-    let came : length (take (r .result) (drop (k .keep-rest .result) (r .last .0))) ≡ r .result =
-    length-take-le (r .result) (drop (k .keep-rest .result) (r .last .0)) (rw length-drop (omega (arith, r .ensures .0, r .kept .0))) in (
-      bytes-kept (c .before),
+    let came : length (take (r .result .count) (drop (k .keep-rest .result) (r .last .0))) ≡ r .result .count =
+    length-take-le (r .result .count) (drop (k .keep-rest .result) (r .last .0)) (rw length-drop (omega (arith, r .ensures .0, r .kept .0))) in (
+      bytes-kept (c .before .before .before .before),
       omega (arith, lines-kept d, l d .loop .inv .1),
       omega arith,
       omega (arith, r .ensures .0, r .kept .0),
       laid-in d,
-      rw (take-add (k .keep-rest .result) (r .result) (r .last .0), r .ensures .1, k .keep-rest .ensures .1)
-          (reads-on (take (r .result) (drop (k .keep-rest .result) (r .last .0))) came (underway d)),
-      omega (arith, r .ensures .0, r .kept .0, bytes-kept (c .before), start d .pre .0 .1, l d .loop .inv .6),
+      rw (take-add (k .keep-rest .result) (r .result .count) (r .last .0), r .ensures .1, k .keep-rest .ensures .1)
+          (reads-on (take (r .result .count) (drop (k .keep-rest .result) (r .last .0))) came (underway d)),
+      omega (arith, r .ensures .0, r .kept .0, bytes-kept (c .before .before .before .before), start d .pre .0 .1, l d .loop .inv .6),
       omega (arith, l d .loop .inv .7),
     ))
     (λ c. c .before .loop .inv .0)
