@@ -133,7 +133,7 @@ fn arrows(ways: &Ways) -> BTreeMap<(Situation, Situation), Vec<String>> {
 
 const WIDTH: i32 = 1480;
 const HEIGHT: i32 = 1150;
-const LINE: i32 = 19;
+pub(crate) const LINE: i32 = 19;
 
 /// Middle and size of a box.
 struct Place {
@@ -250,18 +250,15 @@ const STYLE: &str = "\
   .common { fill: none; stroke: #9a7b2f; stroke-width: 2.2; marker-end: url(#common-head); }
 ";
 
-/// The picture, drawn from the library as it is linked.
-pub fn states_svg() -> String {
-    let ways = ways();
-    let mut arrows = arrows(&ways);
-
+/// The head of a picture, up to its heading.
+pub(crate) fn open(width: i32, height: i32, heading: &str, program: &str) -> String {
     let mut svg = String::new();
     let _ = writeln!(
         svg,
-        "<svg xmlns=\"http://www.w3.org/2000/svg\" width=\"{WIDTH}\" height=\"{HEIGHT}\" \
-         viewBox=\"0 0 {WIDTH} {HEIGHT}\">\n\
-         <title>The states of one call</title>\n\
-         <!-- Drawn from the library by tests/src/bin/draw_states.rs; do not edit. -->\n\
+        "<svg xmlns=\"http://www.w3.org/2000/svg\" width=\"{width}\" height=\"{height}\" \
+         viewBox=\"0 0 {width} {height}\">\n\
+         <title>{heading}</title>\n\
+         <!-- Drawn from the library by tests/src/bin/{program}.rs; do not edit. -->\n\
          <style>\n{STYLE}</style>\n\
          <defs>"
     );
@@ -274,9 +271,17 @@ pub fn states_svg() -> String {
         );
     }
     svg += "</defs>\n";
-    let _ = writeln!(svg, "<rect width=\"{WIDTH}\" height=\"{HEIGHT}\" fill=\"#ffffff\"/>");
-    let _ =
-        writeln!(svg, "<text class=\"heading\" x=\"40\" y=\"44\">The states of one call</text>");
+    let _ = writeln!(svg, "<rect width=\"{width}\" height=\"{height}\" fill=\"#ffffff\"/>");
+    let _ = writeln!(svg, "<text class=\"heading\" x=\"40\" y=\"44\">{heading}</text>");
+    svg
+}
+
+/// The picture, drawn from the library as it is linked.
+pub fn states_svg() -> String {
+    let ways = ways();
+    let mut arrows = arrows(&ways);
+
+    let mut svg = open(WIDTH, HEIGHT, "The states of one call", "draw_states");
 
     for frame in &FRAMES {
         let common = take_common(&mut arrows, frame);

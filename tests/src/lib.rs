@@ -3,6 +3,7 @@
 
 pub mod account;
 pub mod drawing;
+pub mod drawing_console;
 pub mod explore;
 pub mod generate;
 pub mod histories;
