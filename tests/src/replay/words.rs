@@ -220,9 +220,6 @@ pub fn held(text: &mut Text, call: &Call) {
         address => text.number(address),
     };
     text.put(if call.mode as u8 == 0 { ", simplex" } else { ", duplex" });
-    if call.slots != 1 {
-        text.put(", ").number(call.slots).put(" slots");
-    }
     text.put(", T310 code ").number(call.t310_code);
     text.put(if call.asked { ", asked" } else { ", not asked" });
     text.put(if call.sent { ", sent" } else { ", not sent" });
