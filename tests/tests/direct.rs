@@ -2,6 +2,8 @@
 //! events reaches, on generated events, and on every kind.
 
 use callcontrol_tests::account::direct::{self, RECORD_LEN, STEP_MAX};
+use callcontrol_tests::library::BRIDGED;
+use callcontrol_tests::programs::stack_used;
 use callcontrol_tests::request::{Function, Request};
 use callcontrol_tests::sidebyside::Queue;
 use std::collections::{BTreeSet, VecDeque};
@@ -178,4 +180,29 @@ fn every_kind_and_every_body_of_one_byte() {
         }
     }
     queue.finish();
+}
+
+/// Calls that go through every row, on a painted stack.
+#[test]
+fn a_step_uses_less_than_512_bytes_of_stack() {
+    if cfg!(not(target_arch = "x86_64")) && !BRIDGED {
+        println!("not measured: this is not the library that is shipped, which is x86-64 code");
+        return;
+    }
+    let request = || event(0x0801, &[9, 4, 2]);
+    let sent = || event(0x0802, &[0]);
+    let expiry = || event(0x0805, &303u16.to_le_bytes());
+    let mut events = vec![request(), sent(), expiry(), sent(), expiry()];
+    events.extend([request(), event(0x0802, &[1]), request(), sent(), event(0x0804, &[])]);
+    events.extend([request(), sent(), event(0x0803, &[3]), event(0x0801, &[9, 4, 16])]);
+    events.extend([request(), sent(), event(0x0803, &[5]), expiry(), request()]);
+    let mut tape = Vec::new();
+    for event in events {
+        tape.extend_from_slice(&(event.len() as u32).to_le_bytes());
+        tape.extend_from_slice(&event);
+    }
+    let bytes = stack_used("tests/bridge/stack_direct.c", &tape);
+    println!("{bytes} bytes of stack");
+    // A step that used next to nothing would not have been played.
+    assert!((32..512).contains(&bytes), "{bytes} bytes of stack");
 }
