@@ -86,6 +86,16 @@ eachBack (x ∷ xs) (u ∷ us) s = (s .0, eachBack xs us (s .1))
 pub unheld : (n : ℕ) (xs : List Call) (vs : List Val) → Is (Array (Struct (shape T.the-type)) n) (map (T.the-type .to) xs) vs → Is (Array T.the-row n) xs vs
 unheld n xs vs p = (p .0, ((p .1 .0 .0, sym (length-map xs (T.the-type .to)) ∙ p .1 .0 .1), eachBack xs (p .0) (p .1 .1)))
 
+-- and the other way
+eachHeld : (xs : List Call) (us : List Val) → shadow (each Call (T.the-row .own) xs us) → shadow (each (Struct (shape T.the-type) .Denot) (Struct (shape T.the-type) .own) (map (T.the-type .to) xs) us)
+eachHeld [] [] s = s
+eachHeld [] (u ∷ us) s = s
+eachHeld (x ∷ xs) [] s = s
+eachHeld (x ∷ xs) (u ∷ us) s = (s .0, eachHeld xs us (s .1))
+
+pub asHeld : (n : ℕ) (xs : List Call) (vs : List Val) → Is (Array T.the-row n) xs vs → Is (Array (Struct (shape T.the-type)) n) (map (T.the-type .to) xs) vs
+asHeld n xs vs p = (p .0, ((p .1 .0 .0, length-map xs (T.the-type .to) ∙ p .1 .0 .1), eachHeld xs (p .0) (p .1 .1)))
+
 -- an index below 8 is one of a list of eight, also after k stores
 pub lt : (l : List Call) → length l ≡ 8 → (j : ℕ) → T (ltb j 8) → j < length l
 lt l e j h = subst (λ (m : ℕ). j < m) (sym e) (ltb→lt j 8 h)

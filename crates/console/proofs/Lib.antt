@@ -1,5 +1,6 @@
 pub mod Answering
 pub mod Answers
+pub mod ByKeys
 pub mod Demands
 pub mod Determined
 pub mod Eight

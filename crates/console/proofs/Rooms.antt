@@ -102,7 +102,7 @@ module _ (calls : List Call) (eight : length calls ≡ 8) (kept : (k : ℕ) → 
 
 -- ---- any table of eight: a bound for the boundary's number
 
-place-few : (k : ℕ) (c : Call) (e : Event) (b : List ℕ) → placed k c e b .count ≤ 127
+pub place-few : (k : ℕ) (c : Call) (e : Event) (b : List ℕ) → placed k c e b .count ≤ 127
 place-few k c e b = by (decides c e (drop 5 b))
   where
     by : Decides c e (drop 5 b) → placed k c e b .count ≤ 127

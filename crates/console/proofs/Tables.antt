@@ -31,7 +31,7 @@ module _ (calls : List Call) (ok : tableSound calls ≡ true) where
   unfolding tableSound
   eight-of = eqb-true (length calls) 8 (left (eqb (length calls) 8) (every? sound calls && apart calls) ok)
 
-  sound-all : every? sound calls ≡ true
+  pub sound-all : every? sound calls ≡ true
   unfolding tableSound
   sound-all = left (every? sound calls) (apart calls) (right (eqb (length calls) 8) (every? sound calls && apart calls) ok)
 

@@ -14,7 +14,7 @@ use base.Logic.{ent, sep, ex}
 use base.Fml.{fat}
 use prog.Wp.{Heap, Env, Calls, Loops, Wp, afterSeq}
 use ghost.Atoms.{Atoms, sem}
-use types.Kit.{Given, Item, Post, post, anyQ, runs, Seq, ‵, some, _⊛_, _$_, _∵_, !, qed, keep, drop, use1, use2, split, pick, show, fsplit, fjoin, feqI, done}
+use types.Kit.{Given, Item, Post, post, anyQ, runs, Seq, ‵, some, _⊛_, _$_, _∵_, !, qed, by, keep, drop, use1, use2, split, pick, show, fsplit, fjoin, feqI, done}
 use types.Run.{Opd, first, branches, skips}
 use types.Share.{arr-parts}
 use denote.Memory.{partAt, shares}
@@ -38,9 +38,13 @@ module _ {M : Type 1} (𝓤 : URA M) (H : Heap 𝓤) (A : Atoms 𝓤) (W : Given
       use2 W (‵ (partAt (Array T.the-row n) fullShare xs l 0)) (part-in 𝓤 H A W (Array T.the-row n) refl fullShare xs l 0 v) $
       use1 W (‵ (arr-parts (shares T.the-row) n .part fullShare xs l 0)) (array-apart 𝓤 H A W T.the-row fullShare tt n xs l 0) $ fsplit ! $ drop ! $ done !
 
+  pub from-row : length xs ≡ n → ent 𝓤 (sem 𝓤 H A (row T.the-row fullShare xs l 0)) (ex 𝓤 (λ (u : Val). sep 𝓤 (H .at fullShare (tyArray T′.mir n) l 0 u) (sem 𝓤 H A (Array T.the-row n .own xs (u ∷ [])))))
+  from-row e =
+      qed W (‵ (row T.the-row fullShare xs l 0) ∷ []) ∵ feqI ! ℕ (length xs) n e $ fjoin ! $
+      use1 W (‵ (partAt (Array T.the-row n) fullShare xs l 0)) (array-whole 𝓤 H A W T.the-row fullShare n xs l 0) $ by ! (part-out 𝓤 H A W (Array T.the-row n) refl fullShare xs l 0)
+
   pub of-row : length xs ≡ n → ent 𝓤 (sem 𝓤 H A (row T.the-row fullShare xs l 0)) (ex 𝓤 (λ (u : Val). H .at fullShare (tyArray T′.mir n) l 0 u))
   of-row e =
-      qed W (‵ (row T.the-row fullShare xs l 0) ∷ []) ∵ feqI ! ℕ (length xs) n e $ fjoin ! $
-      use1 W (‵ (partAt (Array T.the-row n) fullShare xs l 0)) (array-whole 𝓤 H A W T.the-row fullShare n xs l 0) $
-      use1 W (some (λ (u : Val). ‵ (fat fullShare (tyArray T′.mir n) l 0 u) ⊛ ‵ (Array T.the-row n .own xs (u ∷ [])))) (part-out 𝓤 H A W (Array T.the-row n) refl fullShare xs l 0) $ pick ! (λ u. split ! $
+      qed W (‵ (row T.the-row fullShare xs l 0) ∷ []) ∵
+      use1 W (some (λ (u : Val). ‵ (fat fullShare (tyArray T′.mir n) l 0 u) ⊛ ‵ (Array T.the-row n .own xs (u ∷ [])))) (from-row e) $ pick ! (λ u. split ! $
       show ! (λ (w : Val). H .at fullShare (tyArray T′.mir n) l 0 w) u $ keep ! (0 ∷ []) $ done !)

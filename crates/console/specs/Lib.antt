@@ -1,5 +1,6 @@
 pub mod Table
 pub mod Route
+pub mod Keys
 pub mod Console
 pub mod Lent
 pub mod Runs

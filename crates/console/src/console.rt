@@ -2,27 +2,25 @@
 ghost use mathlib.Core.Path.{_≡_};
 ghost use Prim.Native.Nat.{_<_, _≤_};
 ghost use lib.ListN.{length};
+ghost use Rattle.records.specs.declared.messages.Message.{Message};
+ghost use Rattle.records.specs.Bodies.{laid};
+ghost use Rattle.records.specs.Messages.{messageBytes};
 ghost use Rattle.callcontrol.specs.Writing.{bytesOf};
 ghost use Rattle.callcontrol.specs.Step.{asOutcome};
 ghost use Rattle.console.specs.declared.route.Aim.{Aim};
 ghost use Rattle.console.specs.Route.{aimOf};
 ghost use Rattle.console.specs.Console.{headed, headRoom, placed, atPlace, LaidAll, writesFrom, everywhere, asConsole, consoleOf};
+use crate::keys::keys_of;
 use crate::route::ConsoleAnswer;
-use crate::route::Route;
-use crate::route::route_of;
+use crate::route::Led;
+use crate::route::lead;
 use crate::table::table_sound;
 use callcontrol::call::Call;
 use callcontrol::step::Answer;
 use callcontrol::step::Stepped;
 use callcontrol::step::answer_number;
 use callcontrol::step::decide;
-use callcontrol::step::place_in;
-use callcontrol::step::unread;
 use records::events::Event;
-use records::events::EventRead;
-use records::events::read_event;
-use records::messages::Message;
-use records::messages::lay_message;
 
 // Whether a place takes an event, how many bytes are written for it, and the eight records.
 pub struct AllStepped {
@@ -60,8 +58,22 @@ fn head_room(len: usize) -> usize
     5
 }
 
+// The record that names a place, where there is room for it.
+fn put_place(k: u8, buffer: &mut [u8])
+    ensures { λ _. ⌜ now (buffer .exit) ≡ laid (messageBytes (Message.Place k)) (now (buffer .entry)) 0 ⌝ }
+{
+    if buffer.len() < 5 {
+        return;
+    }
+    buffer[0] = 5;
+    buffer[1] = 0;
+    buffer[2] = 5;
+    buffer[3] = 6;
+    buffer[4] = k;
+}
+
 // The step of one place: its messages, if it writes any, behind the record that names it.
-fn place_step(call: Call, k: u8, event: Event, buffer: &mut [u8]) -> Stepped
+pub fn place_step(call: Call, k: u8, event: Event, buffer: &mut [u8]) -> Stepped
     ensures { λ r. ⌜ asOutcome r (now (buffer .exit)) ≡ placed k call event (now (buffer .entry)) ⌝ }
 {
     let head = head_room(buffer.len());
@@ -69,7 +81,7 @@ fn place_step(call: Call, k: u8, event: Event, buffer: &mut [u8]) -> Stepped
     if stepped.count == 0 {
         return stepped;
     }
-    lay_message(Message::Place { at: k }, buffer, 0);
+    put_place(k, buffer);
     let answer = stepped.answer;
     let next = stepped.call;
     Stepped {
@@ -131,7 +143,7 @@ fn own_buffer() -> [u8; 1016]
 }
 
 // An event for every place that would take it: laid in a buffer of our own first, and copied only where all of it fits.
-fn everywhere(calls: [Call; 8], event: Event, buffer: &mut [u8]) -> ConsoleStepped
+pub fn everywhere(calls: [Call; 8], event: Event, buffer: &mut [u8]) -> ConsoleStepped
     requires { ⌜ aimOf event ≡ Aim.Every ⌝ }
     ensures { λ r. ⌜ asConsole r (now (buffer .exit)) ≡ everywhere calls event (now (buffer .entry)) ⌝ }
 {
@@ -175,21 +187,12 @@ pub fn console_step(calls: [Call; 8], place: u8, event: &[u8], buffer: &mut [u8]
             calls,
         };
     }
-    let read = read_event(event);
-    let EventRead::Is(e) = read else {
-        return ConsoleStepped {
-            answer: ConsoleAnswer::OfStep(unread(read)),
-            place: place_in(read),
-            count: 0,
-            calls,
-        };
-    };
-    match route_of(calls, place, e) {
-        Route::To(k) => at_place(calls, k, e, buffer),
-        Route::Everywhere => everywhere(calls, e, buffer),
-        Route::Refused(answer) => ConsoleStepped {
+    match lead(keys_of(calls), place, event) {
+        Led::To { k, event } => at_place(calls, k, event, buffer),
+        Led::Everywhere { event } => everywhere(calls, event, buffer),
+        Led::Refused { answer, at } => ConsoleStepped {
             answer,
-            place: 0,
+            place: at,
             count: 0,
             calls,
         },

@@ -3,8 +3,9 @@ ghost use mathlib.Core.Path.{_≡_};
 ghost use Prim.Native.Nat.{_<_};
 ghost use lib.ListN.{length, set};
 ghost use Rattle.console.specs.Table.{callAt};
-ghost use Rattle.console.specs.Console.{consoleOf};
+ghost use Rattle.console.specs.Console.{asConsole, consoleOf};
 ghost use Rattle.console.specs.Lent.{notEight, asTold};
+use crate::console::ConsoleStepped;
 use crate::console::console_step;
 use crate::route::ConsoleAnswer;
 use callcontrol::call::Call;
@@ -95,5 +96,25 @@ pub fn console_step_lent(
         answer,
         place: stepped.place,
         count: stepped.count,
+    }
+}
+
+// Eight records by value, through a table that is lent: what every caller without a lent table calls.
+pub fn console_step_over(
+    calls: [Call; 8],
+    place: u8,
+    event: &[u8],
+    buffer: &mut [u8],
+) -> ConsoleStepped
+    ensures { λ r. ⌜ asConsole r (now (buffer .exit)) ≡ consoleOf calls place (now (event .entry)) (now (buffer .entry)) ⌝ }
+{
+    let mut table = calls;
+    let told = console_step_lent(&mut table, place, event, buffer);
+    let answer = told.answer;
+    ConsoleStepped {
+        answer,
+        place: told.place,
+        count: told.count,
+        calls: table,
     }
 }

@@ -1,13 +1,19 @@
 // Where an event goes: to one place, to every place that would take it, or to none.
 ghost use mathlib.Core.Path.{_≡_};
 ghost use Prim.Native.Nat.{_<_};
-ghost use Rattle.console.specs.Route.{consoleNumber, aimOf, routeOf, atNamed, atLowestIdle, outgoing, incoming, atHolder};
-use crate::table::holder;
-use crate::table::lowest_idle;
-use callcontrol::call::Call;
+ghost use Rattle.records.specs.Tables.{read};
+ghost use Rattle.records.specs.Events.{events};
+ghost use Rattle.console.specs.Route.{consoleNumber, aimOf, atNamed};
+ghost use Rattle.console.specs.Keys.{atIdleBy, outgoingBy, incomingBy, atHolderBy, routeBy, asLead, leadBy};
+use crate::keys::held_by;
+use crate::keys::idle_by;
 use callcontrol::step::Answer;
 use callcontrol::step::answer_number;
+use callcontrol::step::place_in;
+use callcontrol::step::unread;
 use records::events::Event;
+use records::events::EventRead;
+use records::events::read_event;
 
 // What comes back: the step's own answers, and those that only a console gives.
 pub enum ConsoleAnswer {
@@ -54,6 +60,13 @@ pub enum Route {
     To(usize),
     Everywhere,
     Refused(ConsoleAnswer),
+}
+
+// Where the bytes of an event lead; a refusal has the offset that comes with 4.
+pub enum Led {
+    To { k: usize, event: Event },
+    Everywhere { event: Event },
+    Refused { answer: ConsoleAnswer, at: u8 },
 }
 
 pub fn aim_of(event: Event) -> Aim
@@ -125,57 +138,74 @@ fn at_named(place: u8) -> Route
     Route::Refused(ConsoleAnswer::PlaceOver)
 }
 
-fn at_lowest_idle(calls: [Call; 8]) -> Route
-    ensures { λ r. ⌜ r ≡ atLowestIdle calls ⌝ }
+fn at_lowest_idle(keys: [u16; 8]) -> Route
+    ensures { λ r. ⌜ r ≡ atIdleBy keys ⌝ }
 {
-    let k = lowest_idle(calls);
+    let k = idle_by(keys);
     if k < 8 {
         return Route::To(k);
     }
     Route::Refused(ConsoleAnswer::NoIdlePlace)
 }
 
-fn outgoing(calls: [Call; 8]) -> Route
-    ensures { λ r. ⌜ r ≡ outgoing calls ⌝ }
+fn outgoing(keys: [u16; 8]) -> Route
+    ensures { λ r. ⌜ r ≡ outgoingBy keys ⌝ }
 {
-    if holder(calls, 0) < 8 {
+    if held_by(keys, 0) < 8 {
         return Route::Refused(ConsoleAnswer::IdAwaited);
     }
-    at_lowest_idle(calls)
+    at_lowest_idle(keys)
 }
 
-fn incoming(calls: [Call; 8], id: u16) -> Route
-    ensures { λ r. ⌜ r ≡ incoming calls id ⌝ }
+fn incoming(keys: [u16; 8], id: u16) -> Route
+    ensures { λ r. ⌜ r ≡ incomingBy keys id ⌝ }
 {
-    if holder(calls, id) < 8 {
+    if held_by(keys, id) < 8 {
         return Route::Refused(ConsoleAnswer::IdHeld);
     }
-    at_lowest_idle(calls)
+    at_lowest_idle(keys)
 }
 
 // The place with the identifier, else the one without any.
-fn at_holder(calls: [Call; 8], id: u16) -> Route
-    ensures { λ r. ⌜ r ≡ atHolder calls id ⌝ }
+fn at_holder(keys: [u16; 8], id: u16) -> Route
+    ensures { λ r. ⌜ r ≡ atHolderBy keys id ⌝ }
 {
-    let k = holder(calls, id);
+    let k = held_by(keys, id);
     if k < 8 {
         return Route::To(k);
     }
-    let k = holder(calls, 0);
+    let k = held_by(keys, 0);
     if k < 8 {
         return Route::To(k);
     }
     Route::Refused(ConsoleAnswer::OfStep(Answer::OtherCall))
 }
 
-pub fn route_of(calls: [Call; 8], place: u8, event: Event) -> Route
-    ensures { λ r. ⌜ r ≡ routeOf calls place event ⌝ }
+pub fn route_of(keys: [u16; 8], place: u8, event: Event) -> Route
+    ensures { λ r. ⌜ r ≡ routeBy keys place event ⌝ }
 {
     match aim_of(event) {
         Aim::Place => at_named(place),
-        Aim::Outgoing => outgoing(calls),
-        Aim::Incoming(id) => incoming(calls, id),
-        Aim::Held(id) => at_holder(calls, id),
+        Aim::Outgoing => outgoing(keys),
+        Aim::Incoming(id) => incoming(keys, id),
+        Aim::Held(id) => at_holder(keys, id),
         Aim::Every => Route::Everywhere,
+    }
+}
+
+pub fn lead(keys: [u16; 8], place: u8, event: &[u8]) -> Led
+    ensures { λ r. ⌜ asLead r ≡ leadBy keys place (read events (now (event .entry))) ⌝ }
+{
+    let read = read_event(event);
+    let EventRead::Is(e) = read else {
+        return Led::Refused {
+            answer: ConsoleAnswer::OfStep(unread(read)),
+            at: place_in(read),
+        };
+    };
+    match route_of(keys, place, e) {
+        Route::To(k) => Led::To { k, event: e },
+        Route::Everywhere => Led::Everywhere { event: e },
+        Route::Refused(answer) => Led::Refused { answer, at: 0 },
     }
 }

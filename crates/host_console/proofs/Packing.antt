@@ -162,7 +162,7 @@ module _ (s : List ℕ) (small : (i : ℕ) → getD s i 0 < 256) where
       rw (List·getD-eq-default (recordAt at s) 0 {n = i} (omega arith)) (lit< tt))
 
   -- what a part holds, packed over it, leaves the bytes
-  stays : (at : ℕ) → at + 22 ≤ length s → isRecord (recordAt at s) ≡ true → packedAt at (held (recordAt at s)) s ≡ s
+  pub stays : (at : ℕ) → at + 22 ≤ length s → isRecord (recordAt at s) ≡ true → packedAt at (held (recordAt at s)) s ≡ s
   stays at room is =
       let v = recordAt at s in
       let same : packed (held v) ≡ v = held-is-packed v (part-small at room) is in
@@ -178,7 +178,7 @@ module _ (s : List ℕ) (small : (i : ℕ) → getD s i 0 < 256) where
 pub held-table-is-packed : HeldTableIsPacked
 unfolding isTable heldTable packedInto
 held-table-is-packed s over small ok n =
-    let h = table-length s (sym ok) refl in
+    let h = table-length s ok in
     let p0 : isRecord (recordAt 0 s) ≡ true = search (left, right) depth 20 in
     let p1 : isRecord (recordAt 22 s) ≡ true = search (left, right) depth 20 in
     let p2 : isRecord (recordAt 44 s) ≡ true = search (left, right) depth 20 in

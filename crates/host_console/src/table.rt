@@ -1,32 +1,59 @@
 // The console on byte slices: a table is eight records of 22 bytes, one after the other.
 ghost use mathlib.Core.Path.{_≡_};
 ghost use mathlib.Core.List.{List};
-ghost use Prim.Native.Nat.{ℕ};
+ghost use mathlib.Core.Bool.{true};
+ghost use Prim.Native.Nat.{ℕ, _<_, _≤_};
 ghost use lib.ListN.{length};
-ghost use Rattle.host_console.specs.Table.{TableLeft, isTable, heldTable, packedInto, consoleFreshened, consoleHostStep};
+ghost use Rattle.console.specs.declared.route.Aim.{Aim};
+ghost use Rattle.console.specs.Route.{aimOf};
+ghost use Rattle.console.specs.Console.{atPlace, everywhere};
+ghost use Rattle.host_console.specs.Table.{TableLeft, isTable, heldTable, packedInto, consoleLeft, consoleFreshened, consoleHostStep};
+ghost use Rattle.host_console.specs.Reading.{KeysOf};
 use callcontrol::call::Call;
-use console::console::console_step;
+use callcontrol::step::answer_number;
+use console::console::everywhere;
+use console::console::place_step;
+use console::keys::apart_by;
+use console::keys::key_of;
+use console::route::Led;
 use console::route::console_number;
+use console::route::lead;
 use host::packed::held;
 use host::packed::is_record;
 use host::packed::pack;
+use records::events::Event;
 
-// Whether some bytes are eight records.
-fn is_table(s: &[u8]) -> bool
-    ensures { λ r. ⌜ r ≡ isTable (now (s .entry)) ⌝ }
+// What reading a table gives: whether it is eight sound records, no two alike, and then the key of each place.
+pub struct TableKeys {
+    pub ok: bool,
+    pub keys: [u16; 8],
+}
+
+// The bytes are gone through once.
+fn table_keys(s: &[u8]) -> TableKeys
+    ensures { λ r. ⌜ KeysOf r (now (s .entry)) ⌝ }
 {
+    let mut keys = [0; 8];
     if s.len() != 176 {
-        return false;
+        return TableKeys { ok: false, keys };
     }
     let mut k = 0;
     while k < 8 {
         let at = 22 * k;
         if !is_record(&s[at..at + 22]) {
-            return false;
+            return TableKeys { ok: false, keys };
         }
+        let call = held(&s[at..at + 22]);
+        if !call.sound() {
+            return TableKeys { ok: false, keys };
+        }
+        keys[k] = key_of(call, k);
         k += 1;
     }
-    true
+    TableKeys {
+        ok: apart_by(keys),
+        keys,
+    }
 }
 
 // The calls that a table's bytes hold.
@@ -49,11 +76,11 @@ fn pack_table(calls: [Call; 8], s: &mut [u8])
     requires { ⌜ length (now s) ≡ 176 ⌝ }
     ensures { λ _. ⌜ now (s .exit) ≡ packedInto calls (now (s .entry)) ⌝ }
 {
-    let mut k = 0;
-    while k < 8 {
-        let at = 22 * k;
-        pack(calls[k], &mut s[at..at + 22]);
-        k += 1;
+    let mut place = 0;
+    while place < 8 {
+        let at = 22 * place;
+        pack(calls[place], &mut s[at..at + 22]);
+        place += 1;
     }
 }
 
@@ -69,6 +96,41 @@ pub extern "C" fn callcontrol_console_fresh(table: &mut [u8]) -> u32
     176
 }
 
+// An event for one place: its record alone is read and written.
+fn to_place(table: &mut [u8], k: usize, event: Event, out: &mut [u8]) -> u32
+    requires { ⌜ k < 8 ⌝ }
+    requires { ⌜ isTable (now table) ≡ true ⌝ }
+    ensures { λ r. ⌜ _≡_ {A = TableLeft} (record { result = r; table = now (table .exit); out = now (out .exit) }) (consoleLeft (now (table .entry)) (atPlace k (heldTable (now (table .entry))) event (now (out .entry)))) ⌝ }
+{
+    let at = 22 * k;
+    let call = held(&table[at..at + 22]);
+    let stepped = place_step(call, k as u8, event, out);
+    let answer = stepped.answer;
+    let next = stepped.call;
+    let own = answer_number(answer) as u32;
+    let result = own * 16777216 + (stepped.place as u32) * 65536 + stepped.count as u32;
+    if own == 0 {
+        pack(next, &mut table[at..at + 22]);
+    }
+    result
+}
+
+// An event for every place: eight records are read, stepped and written.
+fn to_all(table: &mut [u8], event: Event, out: &mut [u8]) -> u32
+    requires { ⌜ (aimOf event ≡ Aim.Every) × (isTable (now table) ≡ true) × (everywhere (heldTable (now table)) event (now out) .count ≤ 1016) ⌝ }
+    ensures { λ r. ⌜ _≡_ {A = TableLeft} (record { result = r; table = now (table .exit); out = now (out .exit) }) (consoleLeft (now (table .entry)) (everywhere (heldTable (now (table .entry))) event (now (out .entry)))) ⌝ }
+{
+    let stepped = everywhere(held_table(table), event, out);
+    let answer = stepped.answer;
+    let after = stepped.calls;
+    let number = console_number(answer) as u32;
+    let result = number * 16777216 + (stepped.place as u32) * 65536 + stepped.count as u32;
+    if number == 0 {
+        pack_table(after, table);
+    }
+    result
+}
+
 // One event for the console: the table goes on and the messages are in out, or nothing is changed.
 #[no_mangle]
 pub extern "C" fn callcontrol_console_step(
@@ -79,16 +141,15 @@ pub extern "C" fn callcontrol_console_step(
 ) -> u32
     ensures { λ r. ⌜ _≡_ {A = TableLeft} (record { result = r; table = now (table .exit); out = now (out .exit) }) (consoleHostStep (now (table .entry)) place (now (event .entry)) (now (out .entry))) ⌝ }
 {
-    if !is_table(table) {
+    let read = table_keys(table);
+    if !read.ok {
         return 16777216;
     }
-    let stepped = console_step(held_table(table), place, event, out);
-    let answer = stepped.answer;
-    let after = stepped.calls;
-    let number = console_number(answer) as u32;
-    let result = number * 16777216 + (stepped.place as u32) * 65536 + stepped.count as u32;
-    if number == 0 {
-        pack_table(after, table);
+    let keys = read.keys;
+    match lead(keys, place, event) {
+        Led::To { k, event: e } => to_place(table, k, e, out),
+        Led::Everywhere { event: e } => to_all(table, e, out),
+        Led::Refused { answer, at } => (console_number(answer) as u32) * 16777216
+            + (at as u32) * 65536,
     }
-    result
 }

@@ -1,8 +1,5 @@
 -- The step is lent the buffer behind five bytes; where it writes, the record that names the place goes into those.
 use native.Mathlib.Omega.{arith}
-use mathlib.Core.Path.{ap}
-use Prim.Native.Nat.{ℕ}
-use mathlib.Core.List.{List}
 use Rattle.console.proofs.Placing.{head-fits, unwritten, written, step-few}
 use borrow.Author.Needs.{needs}
 use Rattle.console.proofs.console.place_step.Statement.{statement}
@@ -29,8 +26,8 @@ same-length c = search needs
 returns : tie.Need-returns
 returns c = unwritten _ _ _ _ (c .before .before .before .before .before .before .head-room .ensures) (c .before .before .before .before .decide .ensures) (c .if1 .taken)
 
-lay-message-requires : tie.Need-lay-message-requires
-lay-message-requires c κs = search needs
+put-place-requires : tie.Need-put-place-requires
+put-place-requires c κs = search needs
 
 with-head-requires : tie.Need-with-head-requires
 with-head-requires c κs = step-few (c .before .before .before .before .before .before .before .before .before .before .before .before .before .args .k) _ _ (c .before .before .before .before .before .before .before .before .before .before .before .before .before .args .buffer .now) (c .before .before .before .before .before .before .before .before .before .before .before .head-room .ensures) (c .before .before .before .before .before .before .before .before .before .decide .ensures)
@@ -39,7 +36,7 @@ same-length-2 : tie.Need-same-length-2
 same-length-2 c = search needs
 
 returns-2 : tie.Need-returns-2
-returns-2 c = written _ _ _ _ (c .before .before .before .before .before .before .before .before .before .before .before .before .head-room .ensures) (c .before .before .before .before .before .before .before .before .before .before .decide .ensures) (c .before .before .before .before .before .before .if1 .left) (c .with-head .ensures) (ap (λ (x : ℕ × List ℕ). x .1) (c .before .before .before .before .lay-message .ensures))
+returns-2 c = written _ _ _ _ (c .before .before .before .before .before .before .before .before .before .before .before .before .head-room .ensures) (c .before .before .before .before .before .before .before .before .before .before .decide .ensures) (c .before .before .before .before .before .before .if1 .left) (c .with-head .ensures) (c .before .before .before .before .put-place .ensures)
 
 pub place-step-spec : {M : Type 1} → statement M
 place-step-spec =
@@ -52,7 +49,7 @@ place-step-spec =
     decide-requires
     same-length
     returns
-    lay-message-requires
+    put-place-requires
     with-head-requires
     same-length-2
     returns-2)

@@ -1,23 +1,23 @@
 -- By whether a place holds the identifier.
 use borrow.Author.Tests.{lt-ltb, le-ltb}
-use Rattle.console.specs.Route.{incoming}
+use Rattle.console.specs.Keys.{incomingBy}
 use borrow.Author.Needs.{needs}
 use Rattle.console.proofs.route.incoming.Statement.{statement}
 use Rattle.console.proofs.route.incoming.Tie as tie
 
-holder-requires : tie.Need-holder-requires
-holder-requires c κs = search needs
+held-by-requires : tie.Need-held-by-requires
+held-by-requires c κs = search needs
 
 returns : tie.Need-returns
-unfolding incoming
-returns c = rw (← c .before .holder .ensures, lt-ltb _ _ (c .if1 .taken))
+unfolding incomingBy
+returns c = rw (← c .before .held-by .ensures, lt-ltb _ _ (c .if1 .taken))
 
 at-lowest-idle-requires : tie.Need-at-lowest-idle-requires
 at-lowest-idle-requires c κs = search needs
 
 returns-2 : tie.Need-returns-2
-unfolding incoming
-returns-2 c = rw (← c .before .before .holder .ensures, le-ltb _ _ (c .before .if1 .left)) (c .at-lowest-idle .ensures)
+unfolding incomingBy
+returns-2 c = rw (← c .before .before .held-by .ensures, le-ltb _ _ (c .before .if1 .left)) (c .at-lowest-idle .ensures)
 
 pub incoming-spec : {M : Type 1} → statement M
-incoming-spec = tie.close (tie.spec holder-requires returns at-lowest-idle-requires returns-2)
+incoming-spec = tie.close (tie.spec held-by-requires returns at-lowest-idle-requires returns-2)

@@ -1,5 +1,5 @@
 -- By what the event finds its place.
-use Rattle.console.specs.Route.{routeOf}
+use Rattle.console.specs.Keys.{routeBy}
 use borrow.Author.Needs.{needs}
 use Rattle.console.proofs.route.route_of.Statement.{statement}
 use Rattle.console.proofs.route.route_of.Tie as tie
@@ -35,23 +35,23 @@ enum-told-3 : tie.Need-enum-told-3
 enum-told-3 c = search needs
 
 returns : tie.Need-returns
-unfolding routeOf
+unfolding routeBy
 returns c = rw (← c .before .before .before .aim-of .ensures, c .before .enum-told .given .1) (c .at-named .ensures)
 
 returns-2 : tie.Need-returns-2
-unfolding routeOf
+unfolding routeBy
 returns-2 c = rw (← c .before .before .before .aim-of .ensures, c .before .enum-told2 .given .1) (c .outgoing .ensures)
 
 returns-3 : tie.Need-returns-3
-unfolding routeOf
+unfolding routeBy
 returns-3 c = rw (← c .before .before .before .before .aim-of .ensures, c .before .before .id .given .1) (c .incoming .ensures)
 
 returns-4 : tie.Need-returns-4
-unfolding routeOf
+unfolding routeBy
 returns-4 c = rw (← c .before .before .before .before .aim-of .ensures, c .before .before .id2 .given .1) (c .at-holder .ensures)
 
 returns-5 : tie.Need-returns-5
-unfolding routeOf
+unfolding routeBy
 returns-5 c = rw (← c .before .before .aim-of .ensures, c .enum-told3 .given .1)
 
 pub route-of-spec : {M : Type 1} → statement M

@@ -41,8 +41,8 @@ part-pack-end c = omega arith
 pack-requires : tie.Need-pack-requires Inv-loop μ-loop
 pack-requires c κs = search needs
 
-add-k : tie.Need-add-k Inv-loop μ-loop
-add-k c = omega arith
+add-place : tie.Need-add-place Inv-loop μ-loop
+add-place c = omega arith
 
 loop-less : tie.Need-loop-less Inv-loop μ-loop
 loop-less c = omega arith
@@ -74,7 +74,7 @@ pack-table-spec =
     part-pack-start
     part-pack-end
     pack-requires
-    add-k
+    add-place
     loop-less
     loop-again
     same-length
