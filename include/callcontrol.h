@@ -12,7 +12,7 @@
  * The library is an archive for each product, and each function says at its end which have it:
  * libhost.a for a set with one call, and libhost_console.a, linked beside it, for a console;
  * libhost_small.a, in place of libhost.a, for a set with little room: fresh and step alone, with the
- * same results in about half the code; libhost_direct.a, which needs no other, for direct mode.
+ * same results in less code; libhost_direct.a, which needs no other, for direct mode.
  *
  * Every function but callcontrol_pieces_next returns answer * 2^24 + place * 2^16 + count of bytes
  * written. With answer 4 of a reader the place says what is wrong: the offset of the first bad field
