@@ -6,7 +6,7 @@ use callcontrol_tests::programs::{code_of, stack_used};
 use callcontrol_tests::tape::tape;
 
 /// Bytes that a program has more for naming `callcontrol_step`, and bytes of stack of a step.
-const CODE: usize = 10200;
+const CODE: usize = 9880;
 const STACK: usize = 393;
 
 /// As measured, and 2 % more.
