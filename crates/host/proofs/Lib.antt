@@ -12,4 +12,5 @@ pub mod Determined
 pub mod Packing
 pub mod Runs
 pub mod SerialLine
+pub mod SerialRuns
 pub mod Small

@@ -3,6 +3,7 @@ pub mod Entries
 pub mod Laws
 pub mod Runs
 pub mod SerialLine
+pub mod SerialRuns
 pub mod Bank
 pub mod BankLaws
 pub mod BankRuns
