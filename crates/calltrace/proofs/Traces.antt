@@ -1,5 +1,4 @@
--- Every input has one trace, in whatever pieces it comes: the lines of whole records stay the same when more input comes, and those of a
--- part, followed by the trace of what is left, are the trace of the whole.
+-- The claims of specs/Claims.antt, each proved: every input has one trace, in whatever pieces it comes. Then how the trace of an input grows.
 use Prim.Native.Nat.{ℕ, zero, suc, _+_, _≤_, _<_}
 use mathlib.Core.Bool.{Bool, true, false, cond}
 use mathlib.Core.Path.{_≡_, refl, sym, _∙_, ap}
@@ -14,9 +13,10 @@ use Rattle.records.specs.Bodies.{Stored}
 use Rattle.callcontrol.specs.declared.call.Call.{Call}
 use Rattle.callcontrol.specs.Call.{freshCall}
 use Rattle.calltrace.specs.declared.block.Ahead.{Ahead}
-use Rattle.calltrace.specs.Line.{header, lineFor, endLines}
+use Rattle.calltrace.specs.Line.{header, lineFor}
 use Rattle.calltrace.specs.Block.{aheadIn, outcomeOf, Lines, none, more, Traced}
 use Rattle.calltrace.specs.Trace.{Trace, end, cut, short, whole, Complete}
+use Rattle.calltrace.specs.Claims.{Traceable, EveryTrace, OneTrace, LinesStay, LinesThenTrace, EndTraced}
 
 -- to tell them apart
 abbrev tag : Ahead → ℕ
@@ -65,21 +65,26 @@ ahead-more s behind e =
       fits = rw length-append (omega arith);
     }
 
-pub lines-more : {s rest text : List ℕ} {c d : Call} (behind : List ℕ) → Lines s c rest d text → Lines (s ++ behind) c (rest ++ behind) d text
+lines-more : {s rest text : List ℕ} {c d : Call} (behind : List ℕ) → Lines s c rest d text → Lines (s ++ behind) c (rest ++ behind) d text
 lines-more behind none = none
 lines-more behind (more {rest} {c} {text} size p h) =
     let w = whole-in rest h in
     rw (← drop-append-le size rest behind (w .fits), ← take-append-le size rest behind (w .fits)) (more size (lines-more behind p) (ahead-more rest behind h))
 
+pub lines-stay : LinesStay
+lines-stay s rest text behind c d p = lines-more behind p
+
 -- lines one after the other
-pub lines-then : {s mid rest t u : List ℕ} {c d e : Call} → Lines s c mid d t → Lines mid d rest e u → Lines s c rest e (t ++ u)
+lines-then : {s mid rest t u : List ℕ} {c d e : Call} → Lines s c mid d t → Lines mid d rest e u → Lines s c rest e (t ++ u)
 lines-then {t = t} p none = rw append-nil p
 lines-then {t = t} p (more size q h) = rw (← append-assoc) (more size (lines-then p q) h)
 
--- the lines of a part, then the trace of what is left
-pub lines-traced : {s rest t u : List ℕ} {c d : Call} → Lines s c rest d t → Trace rest d u → Trace s c (t ++ u)
+lines-traced : {s rest t u : List ℕ} {c d : Call} → Lines s c rest d t → Trace rest d u → Trace s c (t ++ u)
 lines-traced none r = r
 lines-traced (more size p h) r = rw append-assoc (lines-traced p (whole size h r))
+
+pub lines-then-trace : LinesThenTrace
+lines-then-trace s rest t u c d p r = lines-traced p r
 
 -- lines that are stored stand behind those before them
 pub stored-behind : {old text new : List ℕ} {at next : ℕ} → Stored old at text next new → next ≤ length old → take next new ≡ take at old ++ text
@@ -92,30 +97,27 @@ nothing : aheadIn [] ≡ Ahead.Cut
 unfolding aheadIn
 nothing = refl
 
--- two traces of one input are equal
-pub one-trace : {s t u : List ℕ} {c : Call} → Trace s c t → Trace s c u → t ≡ u
-one-trace end end = refl
-one-trace end (cut h k) = absurd (omega arith)
-one-trace end (short h) = absurd (omega (arith, ap tag (sym nothing ∙ h)))
-one-trace end (whole size h q) = absurd (omega (arith, ap tag (sym nothing ∙ h)))
-one-trace (cut h k) end = absurd (omega arith)
-one-trace (cut h k) (cut h' k') = refl
-one-trace (cut h k) (short h') = refl
-one-trace (cut h k) (whole size h' q) = absurd (omega (arith, ap tag (sym h ∙ h')))
-one-trace (short h) end = absurd (omega (arith, ap tag (sym nothing ∙ h)))
-one-trace (short h) (cut h' k) = refl
-one-trace (short h) (short h') = refl
-one-trace (short h) (whole size h' q) = absurd (omega (arith, ap tag (sym h ∙ h')))
-one-trace (whole size h p) end = absurd (omega (arith, ap tag (sym nothing ∙ h)))
-one-trace (whole size h p) (cut h' k) = absurd (omega (arith, ap tag (sym h ∙ h')))
-one-trace (whole size h p) (short h') = absurd (omega (arith, ap tag (sym h ∙ h')))
-one-trace {s} {c = c} (whole size h p) (whole size' h' q) =
-    let e : size' ≡ size = cc in rw e (ap (λ (l : List ℕ). lineFor (outcomeOf c (take size s)) ++ l) (one-trace p (rw e at q)))
+same-trace : {s t u : List ℕ} {c : Call} → Trace s c t → Trace s c u → t ≡ u
+same-trace end end = refl
+same-trace end (cut h k) = absurd (omega arith)
+same-trace end (short h) = absurd (omega (arith, ap tag (sym nothing ∙ h)))
+same-trace end (whole size h q) = absurd (omega (arith, ap tag (sym nothing ∙ h)))
+same-trace (cut h k) end = absurd (omega arith)
+same-trace (cut h k) (cut h' k') = refl
+same-trace (cut h k) (short h') = refl
+same-trace (cut h k) (whole size h' q) = absurd (omega (arith, ap tag (sym h ∙ h')))
+same-trace (short h) end = absurd (omega (arith, ap tag (sym nothing ∙ h)))
+same-trace (short h) (cut h' k) = refl
+same-trace (short h) (short h') = refl
+same-trace (short h) (whole size h' q) = absurd (omega (arith, ap tag (sym h ∙ h')))
+same-trace (whole size h p) end = absurd (omega (arith, ap tag (sym nothing ∙ h)))
+same-trace (whole size h p) (cut h' k) = absurd (omega (arith, ap tag (sym h ∙ h')))
+same-trace (whole size h p) (short h') = absurd (omega (arith, ap tag (sym h ∙ h')))
+same-trace {s} {c = c} (whole size h p) (whole size' h' q) =
+    let e : size' ≡ size = cc in rw e (ap (λ (l : List ℕ). lineFor (outcomeOf c (take size s)) ++ l) (same-trace p (rw e at q)))
 
--- and every input has one
-pub record Traceable (s : List ℕ) (c : Call) : Type 0 where
-  pub text : List ℕ
-  pub traced : Trace s c text
+pub one-trace : OneTrace
+one-trace s c t u p q = same-trace p q
 
 traced-by : (most : ℕ) → ((s : List ℕ) (c : Call) → length s < most → Traceable s c) → (s : List ℕ) (c : Call) (a : Ahead) → length s ≤ most
     → aheadIn s ≡ a → Traceable s c
@@ -131,11 +133,10 @@ every-shorter : (most : ℕ) (s : List ℕ) (c : Call) → length s < most → T
 every-shorter zero s c k = absurd (omega arith)
 every-shorter (suc most) s c k = traced-by most (every-shorter most) s c _ (omega arith) refl
 
-pub every-trace : (s : List ℕ) (c : Call) → Traceable s c
+pub every-trace : EveryTrace
 every-trace s c = every-shorter (suc (length s)) s c (omega arith)
 
--- at the end of the input: no line where nothing is left
-pub end-traced : (rest : List ℕ) (c : Call) → aheadIn rest ≡ Ahead.Cut → Trace rest c (endLines (length rest) c)
+pub end-traced : EndTraced
 end-traced [] c h = end
 end-traced (x ∷ xs) c h = rw (ne-eqb (suc (length xs)) 0 (λ e. omega arith)) (cut h (omega arith))
 

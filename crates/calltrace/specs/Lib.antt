@@ -1,3 +1,4 @@
 pub mod Line
 pub mod Block
 pub mod Trace
+pub mod Claims
