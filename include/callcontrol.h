@@ -69,8 +69,8 @@ extern "C" {
 /* ---- Answers ------------------------------------------------------------------------------- */
 
 /*
- * The lowest number that applies is given, but that 9 comes after 3 and before 4, 8 after 6 and
- * before 7, and a console's 40 to 43 between 4 and 5. A refusal counts 0 bytes and changes no byte.
+ * The first that applies is given, in the order 1 2 3 9 4 5 6 8 7, of a console with 40 41 42 43
+ * between 4 and 5. A refusal counts 0 bytes and changes no byte.
  */
 enum callcontrol_answer {
     CALLCONTROL_TAKEN = 0,        /* taken; bytes written are counted */

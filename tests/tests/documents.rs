@@ -7,6 +7,7 @@
 
 use callcontrol_tests::histories::root;
 use callcontrol_tests::programs::{run, CC};
+use std::collections::HashSet;
 use std::fs;
 use std::path::{Path, PathBuf};
 use std::process::Command;
@@ -176,14 +177,19 @@ fn every_fragment_of_c_is_a_part_of_an_example() {
     }
 }
 
+/// The names in backquotes of a document, outside its code blocks.
+fn names(document: &str) -> Vec<String> {
+    let text = fs::read_to_string(root().join(document)).expect("the document");
+    let outside: String = text.split("```").step_by(2).collect::<Vec<&str>>().join(" ");
+    outside.split('`').skip(1).step_by(2).map(str::to_owned).collect()
+}
+
 /// The files and folders that the documents name are there, and so are the header's names.
 #[test]
 fn what_the_documents_name_is_there() {
     let header = fs::read_to_string(root().join("include/callcontrol.h")).expect("the header");
     for document in DOCUMENTS {
-        let text = fs::read_to_string(root().join(document)).expect("the document");
-        let outside: String = text.split("```").step_by(2).collect::<Vec<&str>>().join(" ");
-        for name in outside.split('`').skip(1).step_by(2) {
+        for name in names(document) {
             let word = name.split_whitespace().next().unwrap_or("");
             let folders = ["crates/", "docs/", "examples/", "include/", "tests/", ".ci/"];
             if folders.iter().any(|folder| word.starts_with(folder)) {
@@ -200,6 +206,91 @@ fn what_the_documents_name_is_there() {
                     .any(|named| named == word);
                 assert!(has, "{document}: the header has no {word}");
             }
+        }
+    }
+}
+
+/// HOST names every entry of the header, and every archive; each number of an answer stands in the
+/// first column of its table of answers.
+#[test]
+fn the_guide_names_every_entry_archive_and_answer() {
+    let header = fs::read_to_string(root().join("include/callcontrol.h")).expect("the header");
+    let guide = fs::read_to_string(root().join("docs/HOST.md")).expect("the guide");
+    let named = names("docs/HOST.md");
+    let entries =
+        header.split("uint32_t callcontrol_").skip(1).filter_map(|rest| rest.split_once('('));
+    let entries = entries.map(|(name, _)| format!("callcontrol_{name}"));
+    let archives = callcontrol_tests::library::archives().map(|path| {
+        Path::new(path).file_name().expect("it has a name").to_string_lossy().into_owned()
+    });
+    let wanted: Vec<String> = entries.chain(archives).collect();
+    assert!(wanted.len() > 20, "only {} entries and archives were found", wanted.len());
+    for name in &wanted {
+        assert!(named.contains(name), "docs/HOST.md does not name {name}");
+    }
+    let table = guide.split("| Answer | Of |").nth(1).expect("the table of answers");
+    let first = table.lines().filter_map(|line| line.strip_prefix("| ")?.split_once(" |"));
+    let numbers: Vec<&str> = first.flat_map(|(cell, _)| cell.split(", ")).collect();
+    let enums = header.split("_answer {").skip(1).filter_map(|rest| rest.split_once('}'));
+    let answers: Vec<String> = enums
+        .flat_map(|(body, _)| body.lines())
+        .filter_map(|line| line.split_once(" = "))
+        .map(|(_, rest)| rest.chars().take_while(char::is_ascii_digit).collect())
+        .collect();
+    assert!(answers.len() > 20, "only {} answers were found", answers.len());
+    for answer in &answers {
+        assert!(numbers.contains(&answer.as_str()), "docs/HOST.md has no answer {answer}");
+    }
+}
+
+/// Every word of the crates' code, definitions and proofs and of the header, and the name of every
+/// file and folder, with its ending and without. What an edit says is not among them.
+fn words_and_files(folder: &Path, known: &mut HashSet<String>) {
+    for path in fs::read_dir(folder).expect("a folder").map(|entry| entry.expect("in it").path()) {
+        let name = path.file_name().expect("it has a name").to_string_lossy().into_owned();
+        if name == "target" {
+            continue;
+        }
+        known.insert(path.file_stem().expect("a name").to_string_lossy().into_owned());
+        known.insert(name);
+        let ending = path.extension().unwrap_or_default();
+        if path.is_dir() {
+            words_and_files(&path, known);
+        } else if ending == "rt" || ending == "antt" || ending == "h" {
+            let text = fs::read_to_string(&path).expect("a text");
+            let apart = |char: char| char.is_whitespace() || "(){}[],;:.`=<>|&*+/".contains(char);
+            known.extend(text.split(apart).map(str::to_owned));
+        }
+    }
+}
+
+/// What MAP, PROMISES and DECISIONS name is there: definitions, functions, lemmas, edits, files. A name
+/// with a blank or two dots in it is a piece of code, and one that begins with a stroke an option.
+#[test]
+fn what_map_promises_and_decisions_name_is_there() {
+    let folders = ["crates", "docs", "examples", "include", "tests", ".ci"];
+    let mut known = HashSet::from(folders.map(str::to_owned));
+    for folder in folders {
+        words_and_files(&root().join(folder), &mut known);
+    }
+    for document in ["docs/MAP.md", "docs/PROMISES.md", "docs/DECISIONS.md"] {
+        let names = names(document);
+        assert!(names.len() > 100, "only {} names were found in {document}", names.len());
+        let is_code =
+            |name: &String| name.contains(' ') || name.contains("..") || name.starts_with('-');
+        for name in names.iter().filter(|name| !is_code(name)) {
+            let is_there = |part: &str| match part.strip_suffix('*') {
+                Some(start) => known.iter().any(|word| word.starts_with(start)),
+                None => known.contains(part),
+            };
+            let whole = |part: &str| is_there(part) || part.split('.').all(is_there);
+            let path = name.split_once('/').is_some_and(|(first, _)| folders.contains(&first));
+            let found = if path {
+                root().join(name).exists()
+            } else {
+                name.split(['/', ':']).filter(|part| !part.is_empty()).all(whole)
+            };
+            assert!(found, "{document}: {name} is not there");
         }
     }
 }
