@@ -9,7 +9,7 @@ use lib.ListN.{length, take, drop}
 use lib.Seq.{sets}
 use Rattle.records.specs.Bytes.{number}
 use Rattle.records.specs.Bodies.{size, numbersAt, allFit}
-use Rattle.records.specs.Tables.{Table, Read, taken, refused, known, find, read, fine}
+use Rattle.records.specs.Tables.{Table, Read, taken, refused, listed, known, find, read, fine}
 use Rattle.records.specs.Laws.{missing, numbers, NoneShared}
 use Rattle.records.specs.Events as document01
 use Rattle.records.specs.Messages as document01m
@@ -163,11 +163,17 @@ ReadsBack =
     (ts : List Turn) (t : Turn) →
     Reads (take (outcome (run freshCall ts) t .count) (outcome (run freshCall ts) t .buffer)) (writtenBy (run freshCall ts) t)
 
--- no kind is one of document 01's, or stands for an event and a message
+-- no kind of one table has a number that the other has retired
+abbrev pub NoneRetired : Table → Table → Type 0
+NoneRetired t u = (k : t .Kind) → listed (t .rowOf k .number) (u .retired) ≡ false
+
+-- no kind is one of document 01's or was one, or stands for an event and a message
 abbrev pub NewKinds : Type 0
 NewKinds =
     NoneShared events document01.events × NoneShared events document01m.messages × NoneShared messages document01.events
     × NoneShared messages document01m.messages × NoneShared events messages
+    × NoneRetired events document01.events × NoneRetired events document01m.messages × NoneRetired messages document01.events
+    × NoneRetired messages document01m.messages
 
 -- How large a buffer to lend
 

@@ -1,8 +1,8 @@
 -- An arm knows its number, its body's size and what the fields before it hold, which is that line of the table; the last knows that no line
 -- has the number.
 use mathlib.Core.Path.{refl}
-use mathlib.Core.List.{[], _∷_}
 use borrow.Author.Needs.{needs}
+use Rattle.records.specs.Laws.{numbers}
 use Rattle.records.proofs.Reading.{end, then, wrong, past}
 use Rattle.records.proofs.Rows.{by-number, of-all, other-size, bad, good, unknown}
 use Rattle.direct.specs.Events.{events, eventKinds, setupRequest, dmaReport, dmConnect, dmDisconnect, expiry}
@@ -35,4 +35,4 @@ read-kind-spec =
     (λ c. of-all events _ _ refl (by-number events _ dmConnect _ (c .before .before .before .before .before .match .keys3) refl refl (good events dmConnect _ (c .before .before .before .before .if3 .left) (then (rw (c .before .grade .given .1) at (c .before .before .before .byte-in5 .ensures)) end) refl)))
     (λ c. of-all events _ _ refl (by-number events _ dmDisconnect _ (c .before .match .keys4) refl refl (good events dmDisconnect _ (c .if4 .left) end refl)))
     (λ c. of-all events _ _ refl (by-number events _ expiry _ (c .before .before .before .before .before .match .keys5) refl refl (good events expiry _ (c .before .before .before .before .if5 .left) (then (rw (c .before .timer .given .1) at (c .before .before .before .word-in .ensures)) end) refl)))
-    (λ c. of-all events _ _ refl (unknown events _ (0x0801 ∷ 0x0802 ∷ 0x0803 ∷ 0x0804 ∷ 0x0805 ∷ []) eventKinds _ refl (c .match .rest))))
+    (λ c. of-all events _ _ refl (unknown events _ (numbers events) eventKinds _ refl (c .match .rest))))

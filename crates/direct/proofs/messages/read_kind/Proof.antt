@@ -1,8 +1,8 @@
 -- An arm knows its number, its body's size and what the fields before it hold, which is that line of the table; the last knows that no line
 -- has the number.
 use mathlib.Core.Path.{refl}
-use mathlib.Core.List.{[], _∷_}
 use borrow.Author.Needs.{needs}
+use Rattle.records.specs.Laws.{numbers}
 use Rattle.records.proofs.Reading.{end, then, wrong, past}
 use Rattle.records.proofs.Rows.{by-number, of-all, other-size, bad, good, unknown}
 use Rattle.direct.specs.Messages.{messages, messageKinds, dmSetupPres, dmConnectAck, dmRelease, stop, start, configure, setupConfirm, releaseIndication}
@@ -43,4 +43,4 @@ read-kind-spec =
     (λ c. of-all messages _ _ refl (by-number messages _ configure _ (c .before .before .before .before .before .match .keys6) refl refl (good messages configure _ (c .before .before .before .before .if6 .left) (then (rw (c .before .grade2 .given .1) at (c .before .before .before .byte-in4 .ensures)) end) refl)))
     (λ c. of-all messages _ _ refl (by-number messages _ setupConfirm _ (c .before .before .before .before .before .match .keys7) refl refl (good messages setupConfirm _ (c .before .before .before .before .if7 .left) (then (rw (c .before .grade3 .given .1) at (c .before .before .before .byte-in5 .ensures)) end) refl)))
     (λ c. of-all messages _ _ refl (by-number messages _ releaseIndication _ (c .before .match .keys8) refl refl (good messages releaseIndication _ (c .if8 .left) end refl)))
-    (λ c. of-all messages _ _ refl (unknown messages _ (0x0901 ∷ 0x0902 ∷ 0x0903 ∷ 0x0911 ∷ 0x0912 ∷ 0x0913 ∷ 0x0921 ∷ 0x0922 ∷ []) messageKinds _ refl (c .match .rest))))
+    (λ c. of-all messages _ _ refl (unknown messages _ (numbers messages) messageKinds _ refl (c .match .rest))))
