@@ -224,8 +224,8 @@ enum callcontrol_event_kind {
     CALLCONTROL_D_DISCONNECT = 0x020D,          /* i, 0 allowed */
     CALLCONTROL_D_RELEASE = 0x020E,             /* i, 0 allowed */
 
-    CALLCONTROL_REPORT_SENT = 0x0301,   /* of U-SETUP or U-DISCONNECT, the one written last; of no other PDU */
-    CALLCONTROL_REPORT_FAILED = 0x0302, /* the same; neither after CANCEL nor after the call's end */
+    CALLCONTROL_REPORT_SENT = 0x0301,   /* of this call's U-SETUP or U-DISCONNECT, the one written last; of no other PDU */
+    CALLCONTROL_REPORT_FAILED = 0x0302, /* the same; neither after a step's CANCEL nor after the call's end */
     CALLCONTROL_BREAK = 0x0303,
     CALLCONTROL_RESUME = 0x0304,
 
@@ -245,7 +245,7 @@ enum callcontrol_message_kind {
     CALLCONTROL_STOP = 0x0601,      /* n */
     CALLCONTROL_START = 0x0602,     /* n o: o is 0 but for T310, whose 0 no step writes */
     CALLCONTROL_CONFIGURE = 0x0603, /* p */
-    CALLCONTROL_CANCEL = 0x0604, /* take back the U-SETUP or U-DISCONNECT that is not reported yet */
+    CALLCONTROL_CANCEL = 0x0604, /* of a step: take back the call's U-SETUP or U-DISCONNECT that is not reported yet; of a channel question: a group call's U-SETUP */
     CALLCONTROL_PLACE = 0x0605, /* y, 0 to 7: the messages behind it are this place's */
     CALLCONTROL_CHANNEL_ANSWER = 0x0606, /* u v: a question's number u16; 0 accept, 1 reject, 2 ignore; no step writes it */
 
@@ -546,6 +546,12 @@ uint32_t callcontrol_direct_copy_message(const uint8_t *bytes, size_t len,
  * answer, and what they do then is the host's to settle. After 7 lend more and call again.
  *
  * A group D-SETUP that the network repeats is a question of its own each time, with its own number.
+ * A decision is for one question: hand the user's SETUP response or RELEASE request in for every
+ * question of that call that waits for the user, in the order asked.
+ *
+ * Group calls are another part's of the set. CANCEL, which callcontrol_channel_ask writes, takes back
+ * the U-SETUP of a group call: that part carries it out, gets its REPORTs, and says whether it worked.
+ * No call record is touched by it, and none must be kept for a group call.
  */
 
 /* What the rooms hold, four times: 0 free, 1 waits for the user, 2 for the cancel. */

@@ -1,10 +1,11 @@
 /*
  * A host whose lower layers ask whether to follow a channel allocation: questions on the PDUs of its
- * individual call are answered by what the step returned; of two group calls one is for the user to
- * take, and one is to a group that the set is calling itself, where U-SETUP is cancelled too late. A
- * third waits for the user until the network ends its call.
+ * individual call are answered by what the step returned. Of three group calls one is for the user to
+ * take, and the network asks for it twice; one is to a group that another part of the set is calling,
+ * whose U-SETUP is cancelled too late; and one waits for the user until the network ends it.
  *
- * The host keeps two things: the bytes of the call, and the bytes of the rooms of waiting questions.
+ * The host keeps two things: the bytes of its individual call, and the bytes of the rooms of waiting
+ * questions. Group calls it does not keep: the part that does is told of CANCEL, and says what came of it.
  *
  *     gcc -std=c11 -Wall -Wextra -Werror -Iinclude examples/c/channel_questions.c \
  *         target/staticlib/libhost.a -o target/channel_questions
@@ -17,6 +18,9 @@
 static uint8_t call[CALLCONTROL_RECORD_SIZE];
 static uint8_t rooms[CALLCONTROL_ROOMS_SIZE];
 
+/* The host numbers the questions, rising. */
+static uint16_t last_number;
+
 static const char *const verdicts[] = {"accept", "reject", "ignore"};
 
 static unsigned int two_bytes(const uint8_t *bytes)
@@ -24,7 +28,7 @@ static unsigned int two_bytes(const uint8_t *bytes)
     return bytes[0] | (unsigned int)bytes[1] << 8;
 }
 
-/* What a real host hands to the lower layers. */
+/* What a real host hands to the lower layers, and to its part for group calls. */
 static void hand_on(const uint8_t *out, size_t count)
 {
     for (size_t at = 0; at < count; at += two_bytes(out + at)) {
@@ -33,7 +37,7 @@ static void hand_on(const uint8_t *out, size_t count)
             printf("    to the lower layers: question %u, %s\n", two_bytes(out + at + 4),
                    verdicts[out[at + 6]]);
         else if (kind == CALLCONTROL_CANCEL)
-            printf("    to the lower layers: CANCEL\n");
+            printf("    to the part for group calls: CANCEL of its U-SETUP\n");
         else
             printf("    message %04X\n", kind);
     }
@@ -60,27 +64,50 @@ static uint32_t step(const char *what, const uint8_t *event)
 }
 
 /* The question that came with an individually addressed PDU, asked after its step. */
-static void ask_pdu(uint16_t number, uint16_t identifier, uint32_t result)
+static void ask_pdu(uint16_t identifier, uint32_t result)
 {
     uint8_t out[CALLCONTROL_CHANNEL_ASK_MAX];
-    show("question", callcontrol_channel_pdu(rooms, sizeof rooms, number, identifier, result, out,
+    last_number++;
+    show("question", callcontrol_channel_pdu(rooms, sizeof rooms, last_number, identifier, result, out,
                                              sizeof out), out);
 }
 
-static void ask_group(const char *what, uint16_t number, uint16_t identifier, uint8_t asked)
+/* The question that came with a group addressed PDU; gives its number. */
+static uint16_t ask_group(const char *what, uint16_t identifier, uint8_t asked)
 {
     uint8_t out[CALLCONTROL_CHANNEL_ASK_MAX];
-    printf("%s\n", what);
-    show("question", callcontrol_channel_ask(rooms, sizeof rooms, number, identifier, asked, out,
+    last_number++;
+    printf("%s, question %u\n", what, last_number);
+    show("question", callcontrol_channel_ask(rooms, sizeof rooms, last_number, identifier, asked, out,
                                              sizeof out), out);
+    return last_number;
 }
 
-static void decide(const char *what, uint16_t number, uint8_t decision)
+static void decide(uint16_t number, uint8_t decision)
 {
     uint8_t out[CALLCONTROL_CHANNEL_ASK_MAX];
-    printf("%s\n", what);
     show("decision", callcontrol_channel_decide(rooms, sizeof rooms, number, decision, out,
                                                 sizeof out), out);
+}
+
+static int waits_for_the_user(uint16_t number, uint16_t identifier)
+{
+    for (const uint8_t *room = rooms; room < rooms + sizeof rooms; room += CALLCONTROL_ROOM_SIZE)
+        if (room[CALLCONTROL_ROOM_AT_WAIT] == 1
+            && two_bytes(room + CALLCONTROL_ROOM_AT_NUMBER) == number
+            && two_bytes(room + CALLCONTROL_ROOM_AT_CALL) == identifier)
+            return 1;
+    return 0;
+}
+
+/* The user's one word on a group call decides every question of it that waits for the user. This
+ * host's numbers rise, so that they are decided in the order asked. */
+static void decide_call(const char *what, uint16_t identifier, uint8_t decision)
+{
+    printf("%s\n", what);
+    for (uint16_t number = 1; number <= last_number; number++)
+        if (waits_for_the_user(number, identifier))
+            decide(number, decision);
 }
 
 static void ended(const char *what, uint16_t identifier)
@@ -106,25 +133,29 @@ int main(void)
     step("The user calls address 7", setup_request);
 
     /* The PDU first, then its question with what the step returned. */
-    ask_pdu(1, 21, step("D-CONNECT for call 21, with a channel", d_connect));
-    ask_pdu(2, 22, step("A grant for another call, with a channel", another_grant));
+    ask_pdu(21, step("D-CONNECT for call 21, with a channel", d_connect));
+    ask_pdu(22, step("A grant for another call, with a channel", another_grant));
 
-    /* Here the host starts T330 for question 3, and stops it when the question is answered. */
-    ask_group("D-SETUP of group call 40, a group that we aren't calling", 3, 40,
+    /* Here the host starts T330 for the question, and stops it when the question is answered. */
+    ask_group("D-SETUP of group call 40, a group that nobody here is calling", 40,
               CALLCONTROL_ASKED_GROUP);
-    ask_group("D-SETUP of group call 41, to a group that we are calling, U-SETUP not yet sent", 4, 41,
-              CALLCONTROL_ASKED_OWN_GROUP);
-    ask_group("The same D-SETUP of group call 40 again: a question of its own", 5, 40,
+    uint16_t cancelling =
+        ask_group("D-SETUP of group call 41, a group that our part for group calls is calling, its "
+                  "U-SETUP not reported sent", 41, CALLCONTROL_ASKED_OWN_GROUP);
+    ask_group("The same D-SETUP of group call 40 again", 40, CALLCONTROL_ASKED_GROUP);
+    ask_group("D-SETUP of group call 42, a group that nobody here is calling", 42,
               CALLCONTROL_ASKED_GROUP);
 
-    decide("The user takes group call 40, by its first question", 3, CALLCONTROL_SETUP_RESPONDED);
-    decide("The cancel failed: U-SETUP was sent already", 4, CALLCONTROL_CANCEL_FAILED);
-    decide("It is decided once", 4, CALLCONTROL_CANCEL_WORKED);
-    ended("The network ends group call 40", 40);
+    decide_call("The user takes group call 40", 40, CALLCONTROL_SETUP_RESPONDED);
+    puts("The part for group calls says that its U-SETUP was sent already: the cancel failed");
+    decide(cancelling, CALLCONTROL_CANCEL_FAILED);
+    puts("It is decided once");
+    decide(cancelling, CALLCONTROL_CANCEL_WORKED);
+    ended("The network ends group call 42", 42);
 
     /* The record forgets the identifier when the call ends: it is kept from before the step. */
     uint16_t identifier = (uint16_t)two_bytes(call + CALLCONTROL_AT_IDENTIFIER);
-    ask_pdu(6, identifier, step("D-RELEASE for call 21, with a channel", d_release));
+    ask_pdu(identifier, step("D-RELEASE for call 21, with a channel", d_release));
     ended(NULL, identifier);
     return EXIT_SUCCESS;
 }

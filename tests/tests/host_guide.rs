@@ -4,6 +4,8 @@
 use callcontrol_tests::account::{State, RECORD_LEN};
 use callcontrol_tests::histories::bytes_of;
 use callcontrol_tests::library::{fresh, split, step};
+use callcontrol_tests::request::{channel_input, Function, Request};
+use callcontrol_tests::sidebyside::alone;
 
 const SETUP_REQUEST: &str = "0A00 0101 07000000 00 01";
 const RELEASE_REQUEST: &str = "0400 0301";
@@ -18,6 +20,7 @@ const CEASED: &str = "0600 0802 1500";
 /// T310 anew with the held code.
 const INFO: &str = "0900 0602 1500 01 10 00";
 const EXPIRY_302: &str = "0600 0104 2E01";
+const EXPIRY_303: &str = "0600 0104 2F01";
 const EXPIRY_308: &str = "0600 0104 3401";
 const EXPIRY_310: &str = "0600 0104 3601";
 const EXPIRY_311: &str = "0600 0104 3701";
@@ -100,6 +103,90 @@ fn cancel_is_about_the_pdu_before() {
     assert_eq!(host.answer("0600 0D02 1500"), 0);
     let kinds = [0x01, 0x06, 0x04, 0x06, 0x04, 0x05];
     assert_eq!([&host.written[2..4], &host.written[8..10], &host.written[12..14]].concat(), kinds);
+}
+
+/// The rooms of waiting channel questions.
+struct Rooms(Vec<u8>);
+
+impl Rooms {
+    fn fresh() -> Rooms {
+        Rooms(alone(&Request::of(Function::ChannelFresh, &[0; 20], &[], 0, 0)).record)
+    }
+
+    /// The answer, and what was written.
+    fn turn(&mut self, function: Function, number: u16, call: u16, what: u32) -> (u32, Vec<u8>) {
+        let input = channel_input(number, call, what);
+        let done = alone(&Request::of(function, &self.0, &input, 28, 0xC3));
+        self.0 = done.record;
+        let (answer, count) = split(done.word);
+        (answer, done.out[..count as usize].to_vec())
+    }
+
+    fn ask(&mut self, number: u16, call: u16, asked: u32) -> (u32, Vec<u8>) {
+        self.turn(Function::ChannelAsk, number, call, asked)
+    }
+
+    fn decide(&mut self, number: u16, decision: u32) -> (u32, Vec<u8>) {
+        self.turn(Function::ChannelDecide, number, 0, decision)
+    }
+}
+
+const CANCEL: [u8; 4] = [4, 0, 0x04, 0x06];
+
+/// Taken, with an answer to the lower layers: 0 accept, 1 reject, 2 ignore.
+fn told(number: u8, verdict: u8) -> (u32, Vec<u8>) {
+    (0, vec![7, 0, 0x06, 0x06, number, 0, verdict])
+}
+
+#[test]
+fn a_steps_cancel_ends_the_call() {
+    let calls: [&[&str]; 3] = [
+        &[SETUP_REQUEST, RELEASE_REQUEST],
+        &[SETUP_REQUEST, CONNECT, RELEASE_REQUEST, "0600 0D02 1500"],
+        &[SETUP_REQUEST, CONNECT, RELEASE_REQUEST, "0600 0E02 1500"],
+    ];
+    for events in calls {
+        let host = Host::after(events);
+        assert!(host.written.windows(4).any(|bytes| bytes == CANCEL), "{events:?}");
+        assert!(host.is_fresh(), "{events:?}");
+    }
+}
+
+#[test]
+fn a_channel_questions_cancel_leaves_the_individual_call_as_it_was() {
+    let (mut host, mut rooms) = (Host::after(&[SETUP_REQUEST]), Rooms::fresh());
+    assert_eq!(rooms.ask(1, 41, 3), (0, CANCEL.to_vec()));
+    // The REPORT of its own U-SETUP is handed in as before: the user who hangs up then writes
+    // U-DISCONNECT. Were it dropped, he would cancel a U-SETUP that was sent.
+    assert_eq!((host.answer(REPORT_SENT), host.answer(RELEASE_REQUEST)), (0, 0));
+    assert_eq!(host.state(), State::CallDisconnect);
+    assert_eq!(rooms.decide(1, 4), told(1, 2));
+}
+
+#[test]
+fn a_group_call_kept_in_a_call_record_is_left_behind() {
+    let (mut host, mut rooms) = (Host::after(&[SETUP_REQUEST]), Rooms::fresh());
+    assert_eq!(rooms.ask(1, 41, 3), (0, CANCEL.to_vec()));
+    assert_eq!(rooms.decide(1, 3), told(1, 0), "the cancel worked, and the channel is followed");
+    assert_eq!(host.state(), State::MoCallSetup, "no step is told");
+    assert_eq!((host.answer(EXPIRY_303), host.state()), (0, State::CallDisconnect));
+    assert_eq!(host.written[..7], [7, 0, 0x03, 0x05, 0, 0, 2], "U-DISCONNECT into the group call");
+}
+
+#[test]
+fn a_decision_is_for_one_question_of_a_call() {
+    let mut rooms = Rooms::fresh();
+    for number in 1..=4 {
+        assert_eq!(rooms.ask(number, 40, 2), (0, vec![]));
+    }
+    assert_eq!(rooms.decide(1, 0), told(1, 0));
+    assert_eq!(rooms.ask(5, 40, 2), (0, vec![]), "in the room of the first");
+    assert_eq!(rooms.ask(6, 40, 2), (51, vec![]), "the next repeat has none");
+    assert_eq!(rooms.decide(2, 2), told(2, 1), "T330 rejects the channel that was accepted");
+    for number in 3..=5 {
+        assert_eq!(rooms.decide(number, 0), told(number as u8, 0));
+    }
+    assert_eq!(rooms.0, Rooms::fresh().0);
 }
 
 #[test]
