@@ -3,18 +3,30 @@
  * second is accepted at a lower grade of service. Then a call that uses all its attempts, one that
  * is asked for wrongly, and one on a channel that has become busy.
  *
+ * The host keeps the bytes of the call, and which of its two timers run.
+ *
  *     gcc -std=c11 -Wall -Wextra -Werror -Iinclude examples/c/direct_call.c \
  *         target/staticlib/libhost_direct.a -o target/direct_call
  */
 #include "callcontrol.h"
 
+#include <stdbool.h>
 #include <stdio.h>
 
 static uint8_t record[CALLCONTROL_DIRECT_RECORD_SIZE];
 
+/* The timers that run; a set starts and stops them where this host keeps a flag. */
+static bool dt303_runs, dt311_runs;
+
 static unsigned int two_bytes(const uint8_t *at)
 {
     return (unsigned int)at[0] | (unsigned int)at[1] << 8;
+}
+
+static void run(unsigned int timer, bool runs)
+{
+    printf("    %s DT%u\n", runs ? "START" : "STOP", timer);
+    *(timer == CALLCONTROL_DT303 ? &dt303_runs : &dt311_runs) = runs;
 }
 
 /* What a message orders; a set would do it. */
@@ -33,10 +45,10 @@ static void carry_out(const uint8_t *message)
         puts("    DM-RELEASE");
         break;
     case CALLCONTROL_DIRECT_STOP:
-        printf("    STOP DT%u\n", two_bytes(body));
+        run(two_bytes(body), false);
         break;
     case CALLCONTROL_DIRECT_START:
-        printf("    START DT%u\n", two_bytes(body));
+        run(two_bytes(body), true);
         break;
     case CALLCONTROL_DIRECT_CONFIGURE:
         printf("    CONFIGURE %u\n", body[0]);
@@ -74,10 +86,27 @@ static void report(uint8_t fared)
     take("DMA-REPORT", event, sizeof event);
 }
 
+/* DT303 has run out: handed in before any other event, and not at all once it was stopped, since it
+ * would count for the next attempt or the next call. */
 static void expire(void)
 {
     const uint8_t event[] = {6, 0, 0x05, 0x08, CALLCONTROL_DT303 & 0xFF, CALLCONTROL_DT303 >> 8};
+
+    if (!dt303_runs) {
+        puts("expiry of DT303, on its way when it was stopped: not handed in");
+        return;
+    }
+    dt303_runs = false;
     take("expiry of DT303", event, sizeof event);
+}
+
+/* No row leaves ACTIVE, so that nothing orders STOP: the host stops DT311 itself, and begins fresh. */
+static void occupation_is_over(void)
+{
+    puts("the occupation is over");
+    if (dt311_runs)
+        run(CALLCONTROL_DT311, false);
+    callcontrol_direct_fresh(record, sizeof record);
 }
 
 int main(void)
@@ -90,9 +119,10 @@ int main(void)
     expire();
     report(CALLCONTROL_DIRECT_SENT);
     take("DM-CONNECT 4", connect, sizeof connect);
-    expire(); /* too late: DT303 no longer runs */
+    expire();
+    ask(9, 4, 2);
+    occupation_is_over();
 
-    callcontrol_direct_fresh(record, sizeof record); /* the occupation is over */
     ask(9, 9, 1);
     report(CALLCONTROL_DIRECT_SENT);
     expire();

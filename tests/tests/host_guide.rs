@@ -209,6 +209,35 @@ fn an_expiry_still_in_hand_counts_for_the_timer_that_was_started_anew() {
     }
 }
 
+/// Direct mode: the answer of each event, and the attempts used and messages after the last.
+fn direct(events: &[&str]) -> (Vec<u32>, u8, Vec<u8>) {
+    let mut record = vec![0; 7];
+    let (mut answers, mut written) = (Vec::new(), Vec::new());
+    for event in events {
+        let event = bytes_of(event);
+        let done = alone(&Request::of(Function::DirectStep, &record, &event, 27, 0x5A));
+        let (answer, count) = split(done.word);
+        answers.push(answer);
+        record = done.record;
+        written = done.out[..count as usize].to_vec();
+    }
+    (answers, record[4], written)
+}
+
+#[test]
+fn a_late_expiry_of_dt303_counts_for_the_next_call() {
+    let (setup, sent) = ("0700 0108 09 04 03", "0500 0208 00");
+    let (disconnect, expiry) = ("0400 0408", "0600 0508 2F01");
+    // DM-DISCONNECT stops DT303. As long as it does not run an expiry is 61: in IDLE, and in the next
+    // call until DM-SETUP PRES is reported sent.
+    let stopped = [setup, sent, disconnect, expiry, setup, expiry];
+    assert_eq!(direct(&stopped), (vec![0, 0, 0, 61, 0, 61], 1, vec![]));
+    // Then it is taken: DM-RELEASE, and the second of the next call's three attempts.
+    let late = [setup, sent, disconnect, setup, sent, expiry];
+    let written = vec![4, 0, 0x03, 0x09, 6, 0, 0x01, 0x09, 9, 4];
+    assert_eq!(direct(&late), (vec![0; 6], 2, written));
+}
+
 #[test]
 fn release_request_and_expiry_of_t308_are_rid_of_any_call() {
     let calls: [&[&str]; 6] = [
