@@ -1,5 +1,5 @@
 -- What calltrace writes for an input, and when the lines in hand are the last of it.
-use Prim.Native.Nat.{ℕ, _<_}
+use Prim.Native.Nat.{ℕ, _+_, _<_, _≤_, _^_}
 use mathlib.Core.Bool.{Bool, true, false}
 use mathlib.Core.Path.{_≡_}
 use mathlib.Core.List.{List, [], _++_}
@@ -28,7 +28,8 @@ pub record Complete (read written : ℕ) (lines : List ℕ) : Type 0 where
   pub traced : Trace input freshCall text
   pub said : header ++ text ≡ before ++ lines
 
--- what is claimed of the lines in hand
-abbrev pub CompleteIf : Bool → ℕ → ℕ → List ℕ → Type 0
-CompleteIf true read written lines = Complete read written lines
-CompleteIf false read written lines = Unit {0}
+-- what is claimed of the lines in hand: they complete a trace, or a write has failed, or as many bytes went by as no run has
+abbrev pub InHandIf : (complete unwritten : Bool) → ℕ → ℕ → List ℕ → Type 0
+InHandIf true unwritten read written lines = Complete read written lines
+InHandIf false true read written lines = Unit {0}
+InHandIf false false read written lines = 2 ^ 46 ≤ read + written

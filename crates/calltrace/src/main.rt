@@ -4,7 +4,7 @@ ghost use Prim.Native.Nat.{_+_, _<_, _≤_};
 ghost use mathlib.Core.Bool.{cond};
 ghost use lib.ListN.{length, take};
 ghost use Rattle.calltrace.specs.Line.{lineMost};
-ghost use Rattle.calltrace.specs.Trace.{CompleteIf};
+ghost use Rattle.calltrace.specs.Trace.{InHandIf};
 use crate::block::Pause;
 use crate::block::drain;
 use crate::block::keep_rest;
@@ -99,12 +99,12 @@ fn complain_if(failed: bool, text: &[u8]) {
 }
 
 // Writes every line but those in hand at the end. A proved loop has to end, and nothing says that the input does. So the loop counts its
-// turns down, from a number that no run uses up and that keeps the counts in range.
+// turns down, from a number that no run uses up, since each turn reads or writes a byte at least, and that keeps the counts in range.
 fn trace(bytes: &mut [u8], lines: &mut [u8]) -> InHand
     requires { ⌜ (65535 ≤ length (now bytes)) × (length (now bytes) ≤ 131072) ⌝ }
     requires { ⌜ (lineMost ≤ length (now lines)) × (length (now lines) ≤ 65536) ⌝ }
     ensures { λ r. ⌜ r .laid ≤ length (now (lines .entry)) ⌝ }
-    ensures { λ r. ⌜ CompleteIf (r .complete) (r .read) (r .written) (take (r .laid) (now (lines .exit))) ⌝ }
+    ensures { λ r. ⌜ InHandIf (r .complete) (r .unwritten) (r .read) (r .written) (take (r .laid) (now (lines .exit))) ⌝ }
 {
     let mut laid = put_header(lines);
     let mut call = Call::fresh();

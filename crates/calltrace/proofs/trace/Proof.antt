@@ -25,6 +25,7 @@ Inv-loop bytes₀ lines₀ laid₀ call₀ at₀ held₀ read₀ written₀ turn
     × Underway read written (drop at (take held bytes)) call (take laid lines)
     × (read + 131072 * turns ≤ 2 ^ 63)
     × (written + 65536 * turns ≤ 2 ^ 63)
+    × (2 ^ 46 ≤ read + written + turns)
 
 abbrev μ-loop : tie.MeasureT-loop
 μ-loop bytes₀ lines₀ laid₀ call₀ at₀ held₀ read₀ written₀ turns₀ bytes lines laid call at held read written turns = turns
@@ -88,6 +89,13 @@ short-after c = c .before .before .before .before .before
 abbrev cut-after : tie.After-enum-told3 Inv-loop μ-loop → tie.After-drain Inv-loop μ-loop
 cut-after c = c .before .before .before .before .before
 
+-- lines that fill their room are some
+laid-some : (c : tie.After-enum-told Inv-loop μ-loop) → 0 < full-after c .drain .result .laid
+laid-some c =
+    let d = full-after c in
+    let pause = pause-is d (c .enum-told .given .1) in
+    omega (arith, pause, same-lines d, start d .pre .1 .0)
+
 -- the rest of a cut record is at the front, and what came stands behind it
 abbrev kept-after : tie.After-slice-known7 Inv-loop μ-loop → tie.After-keep-rest Inv-loop μ-loop
 kept-after c = c .before .before .before .before .before .before
@@ -107,7 +115,7 @@ trace-spec =
     (λ c κs. tt)
     (λ c.
     let h = c .before .before .before .put-header in
-    (refl, omega arith, omega arith, omega arith, omega arith, rw (c .fresh .ensures) (begins (h .ensures .0) (omega arith)), omega arith, omega arith))
+    (refl, omega arith, omega arith, omega arith, omega arith, rw (c .fresh .ensures) (begins (h .ensures .0) (omega arith)), omega arith, omega arith, omega arith))
     (λ c. omega arith)
     (λ c. omega arith)
     (λ c. sym (held-part (c .before .before)))
@@ -130,6 +138,7 @@ trace-spec =
       rw all (writes (length-take-le (d .drain .result .laid) (lines d) (laid-in d)) (underway d)),
       omega (arith, l d .loop .inv .6),
       omega (arith, laid-in d, lines-most d, l d .loop .inv .7),
+      omega (arith, laid-some (c .before .before .before), all, l d .loop .inv .8),
     ))
     (λ c. search needs)
     (λ c κs.
@@ -195,7 +204,8 @@ trace-spec =
           (reads-on (take (r .result .count) (drop (k .keep-rest .result) (r .last .0))) came (underway d)),
       omega (arith, r .ensures .0, r .kept .0, bytes-kept (c .before .before .before .before), start d .pre .0 .1, l d .loop .inv .6),
       omega (arith, l d .loop .inv .7),
+      omega (arith, l d .loop .inv .8),
     ))
     (λ c. c .before .loop .inv .0)
     (λ c. omega (arith, c .before .loop .inv .1, c .before .before .before .before .before .put-header .kept .0))
-    (λ c. (omega (arith, c .before .loop .inv .1, c .before .loop .inv .4, c .before .before .before .before .before .put-header .kept .0), tt)))
+    (λ c. (omega (arith, c .before .loop .inv .1, c .before .loop .inv .4, c .before .before .before .before .before .put-header .kept .0), omega (arith, c .before .loop .inv .8))))
