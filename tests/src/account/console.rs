@@ -14,7 +14,7 @@ const ROOM: usize = 64;
 
 #[derive(Clone, Copy, Debug, PartialEq, Eq)]
 pub enum Refusal {
-    /// 1 to 8: as the step gives them, 1 also for the table and 5 where no place fits.
+    /// 1 to 9: as the step gives them, 1 also for the table and 5 where no place fits.
     Step(super::Refusal),
     /// 40: place over 7.
     Place,
