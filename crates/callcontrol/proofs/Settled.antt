@@ -13,10 +13,10 @@ use Rattle.callcontrol.specs.declared.call.Call.{Call}
 use Rattle.callcontrol.specs.declared.call.State.{State}
 use Rattle.callcontrol.specs.declared.call.Path.{Path}
 use Rattle.callcontrol.specs.Draft.{Draft}
-use Rattle.callcontrol.specs.Call.{runs, T301, T302, T303, T306, T308, T310, T311}
+use Rattle.callcontrol.specs.Call.{runs, transmits, T301, T302, T303, T306, T308, T310, T311}
 use Rattle.callcontrol.specs.Draft.{_▷_, draft, noRow, go, onPath, storeId, storeMode, storeAsked, storeSent, storeCode, storeSlots, keep, stop, start, expired, release, samePlane, plane, off, say, tell, tellModified, grant, grantOrOff, restart, cancel}
 use Rattle.callcontrol.specs.Rows.{releasing, released, disconnected, idle, moCallSetup, mtCallSetup, informed, cut, activeUp, asks, activeBroken, activeRestoring, wait, confirmed}
-use Rattle.callcontrol.specs.Settle.{STAY, MO-CALL-SETUP, MT-CALL-SETUP, CALL-ACTIVE, WAIT, CALL-DISCONNECT, OVER, UP, BROKEN, RESTORING, SENT, PLANE-1, PLANE-2, PLANE-3, OFF, SAME-PLANE, KEPT-PLANE, U-SETUP, U-CONNECT, U-RELEASE, U-TX-DEMAND, U-TX-CEASED, U-CALL-RESTORE, SETUP-INDICATION, SETUP-CONFIRM, PROCEED, ALERT, COMPLETE, RELEASE-INDICATION, RELEASE-CONFIRM, TX-INDICATION, MODIFY-INDICATION, CANCEL, STOP-301, STOP-302, STOP-303, STOP-306, START-301, START-302, START-303, START-306, START-310, EXPIRED-301, EXPIRED-302, EXPIRED-303, EXPIRED-306, EXPIRED-308, EXPIRED-310, EXPIRED-311, ENDED, CONFIRMED, RELEASE, has, timing, expireTimer, stopTimer, startTimer, stopIf, startIf, limitTimer, limitIf, expiredBy, orderedBy, planeTimer, timingBy, configureBy, planeBy, stateBy, keptBy, pathBy, sentBy, nextBy, pduBy, userBy, settled, draftOf, noneRow, rowOf, rowAsking, rowNaming, planeGranted, planeOrOff, askedAfter, restarting, codeAfter, slotsAfter}
+use Rattle.callcontrol.specs.Settle.{STAY, MO-CALL-SETUP, MT-CALL-SETUP, CALL-ACTIVE, WAIT, CALL-DISCONNECT, OVER, UP, BROKEN, RESTORING, SENT, PLANE-1, PLANE-2, PLANE-3, PLANE-OFF, SAME-PLANE, KEPT-PLANE, U-SETUP, U-CONNECT, U-RELEASE, U-TX-DEMAND, U-TX-CEASED, U-CALL-RESTORE, SETUP-INDICATION, SETUP-CONFIRM, PROCEED, ALERT, COMPLETE, RELEASE-INDICATION, RELEASE-CONFIRM, TX-INDICATION, MODIFY-INDICATION, CANCEL, STOP-301, STOP-302, STOP-303, STOP-306, START-301, START-302, START-303, START-306, START-310, EXPIRED-301, EXPIRED-302, EXPIRED-303, EXPIRED-306, EXPIRED-308, EXPIRED-310, EXPIRED-311, ENDED, CONFIRMED, RELEASE, has, timing, expireTimer, stopTimer, startTimer, stopIf, startIf, limitTimer, limitIf, expiredBy, orderedBy, planeTimer, timingBy, configureBy, planeBy, stateBy, keptBy, pathBy, sentBy, nextBy, pduBy, userBy, settled, draftOf, noneRow, rowOf, rowAsking, rowNaming, planeGranted, planeOrOff, askedAfter, restarting, codeAfter, slotsAfter}
 use Rattle.callcontrol.proofs.Verbs.{verbs}
 
 unfoldable pub numbers : Unit {0}
@@ -109,8 +109,8 @@ planeOf neither = 0
 abbrev planeOfOr : Granted → ℕ
 planeOfOr both = PLANE-3
 planeOfOr one = PLANE-1
-planeOfOr refused = OFF
-planeOfOr queued = OFF
+planeOfOr refused = PLANE-OFF
+planeOfOr queued = PLANE-OFF
 planeOfOr another = PLANE-2
 planeOfOr neither = 0
 
@@ -269,7 +269,7 @@ pub demanded-is : (c : Call) → draftOf c (rowAsking c (STAY + U-TX-DEMAND) 1 0
 unfolding verbs numbers
 demanded-is c = refl
 
-pub ceased-is : (c : Call) → draftOf c (rowOf c (STAY + U-TX-CEASED + OFF) 0) ≡ draft c ▷ say (Message.UTxCeased (c .id)) ▷ off
+pub ceased-is : (c : Call) → draftOf c (rowOf c (STAY + U-TX-CEASED + PLANE-OFF) 0) ≡ draft c ▷ say (Message.UTxCeased (c .id)) ▷ off
 unfolding verbs numbers
 ceased-is c = refl
 
@@ -325,7 +325,7 @@ informed-same c o s anew = refl
 informed-same c o s held = refl
 informed-same c o s left = refl
 
-informed-other : (c : Call) (o d s : ℕ) (w : Restarted) → draftOf c (record { orders = STAY + OFF + MODIFY-INDICATION + startOf w; id = c .id; address = c .address; mode = d; asked = c .asked; code = codeOf w o (c .code); slots = slotsAfter s (c .slots); value = 0 }) ≡ restartedFor w o (draft c) ▷ storeMode d ▷ storeSlots s ▷ off ▷ tellModified d
+informed-other : (c : Call) (o d s : ℕ) (w : Restarted) → draftOf c (record { orders = STAY + PLANE-OFF + MODIFY-INDICATION + startOf w; id = c .id; address = c .address; mode = d; asked = c .asked; code = codeOf w o (c .code); slots = slotsAfter s (c .slots); value = 0 }) ≡ restartedFor w o (draft c) ▷ storeMode d ▷ storeSlots s ▷ off ▷ tellModified d
 unfolding verbs numbers
 informed-other c o d s anew = refl
 informed-other c o d s held = refl
@@ -338,7 +338,7 @@ informed-same-is c r o d s e =
     (informed-same c o s (restartedBy (eqb r 1) (eqb o 16))
     ∙ ap (λ t. t ▷ storeSlots s ▷ samePlane ▷ tellModified (c .mode)) (restart-is r o (draft c) (eqb r 1) (eqb o 16) refl refl))
 
-pub informed-other-is : (c : Call) (r o d s : ℕ) → eqb d (c .mode) ≡ false → draftOf c (record { orders = STAY + OFF + MODIFY-INDICATION + restarting r; id = c .id; address = c .address; mode = d; asked = c .asked; code = codeAfter r o (c .code); slots = slotsAfter s (c .slots); value = 0 }) ≡ informed r o d s c
+pub informed-other-is : (c : Call) (r o d s : ℕ) → eqb d (c .mode) ≡ false → draftOf c (record { orders = STAY + PLANE-OFF + MODIFY-INDICATION + restarting r; id = c .id; address = c .address; mode = d; asked = c .asked; code = codeAfter r o (c .code); slots = slotsAfter s (c .slots); value = 0 }) ≡ informed r o d s c
 unfolding informed
 informed-other-is c r o d s e =
     rw (e, restarting-is r o (eqb r 1) (eqb o 16) refl, code-is r o (c .code) (eqb r 1) (eqb o 16) refl refl)
@@ -360,7 +360,7 @@ granted-is c g =
     (granted-by c g (granting g (eqb (c .mode) 1))
     ∙ ap (tell (Message.TxIndication g)) (grant-is g (draft c) (eqb (c .mode) 1) (draft-mode c)))
 
-pub tx-ceased-is : (c : Call) → draftOf c (rowOf c (STAY + OFF + TX-INDICATION) 4) ≡ draft c ▷ off ▷ tell (Message.TxIndication 4)
+pub tx-ceased-is : (c : Call) → draftOf c (rowOf c (STAY + PLANE-OFF + TX-INDICATION) 4) ≡ draft c ▷ off ▷ tell (Message.TxIndication 4)
 unfolding verbs numbers
 tx-ceased-is c = refl
 
@@ -368,19 +368,19 @@ pub interrupted-for-is : (c : Call) → draftOf c (rowOf c (STAY + PLANE-2 + TX-
 unfolding verbs numbers
 interrupted-for-is c = refl
 
-pub interrupted-is : (c : Call) → draftOf c (rowOf c (STAY + OFF + TX-INDICATION) 5) ≡ draft c ▷ plane 4 ▷ tell (Message.TxIndication 5)
+pub interrupted-is : (c : Call) → draftOf c (rowOf c (STAY + PLANE-OFF + TX-INDICATION) 5) ≡ draft c ▷ plane 4 ▷ tell (Message.TxIndication 5)
 unfolding verbs numbers
 interrupted-is c = refl
 
-pub paused-is : (c : Call) → draftOf c (rowOf c (WAIT + OFF + TX-INDICATION) 6) ≡ draft c ▷ go State.Wait ▷ keep (c .plane) ▷ off ▷ tell (Message.TxIndication 6)
+pub paused-is : (c : Call) → draftOf c (rowOf c (WAIT + PLANE-OFF + TX-INDICATION) 6) ≡ draft c ▷ go State.Wait ▷ keep (c .plane) ▷ off ▷ tell (Message.TxIndication 6)
 unfolding verbs numbers
 paused-is c = refl
 
-pub cut-is : (c : Call) → draftOf c (rowAsking c (STAY + BROKEN + OFF) (cond (eqb (c .plane) 1 || eqb (c .plane) 3) 1 (c .asked)) 0) ≡ cut c
+pub cut-is : (c : Call) → draftOf c (rowAsking c (STAY + BROKEN + PLANE-OFF) (cond (transmits (c .plane)) 1 (c .asked)) 0) ≡ cut c
 unfolding verbs numbers cut
 cut-is c = refl
 
-pub spoken-out-is : (c : Call) → draftOf c (rowOf c (EXPIRED-311 + STAY + U-TX-CEASED + OFF) 0) ≡ draft c ▷ expired T311 ▷ say (Message.UTxCeased (c .id)) ▷ off
+pub spoken-out-is : (c : Call) → draftOf c (rowOf c (EXPIRED-311 + STAY + U-TX-CEASED + PLANE-OFF) 0) ≡ draft c ▷ expired T311 ▷ say (Message.UTxCeased (c .id)) ▷ off
 unfolding verbs numbers
 spoken-out-is c = refl
 
@@ -444,7 +444,7 @@ restored-is c g r o =
     ∙ ap (λ t. restartedFor (restartedBy (eqb r 1) (eqb o 16)) o t ▷ tell (Message.TxIndication g)) (grant-is g (restored c) (eqb (c .mode) 1) (restored-mode c))
     ∙ ap (tell (Message.TxIndication g)) (restart-is r o (grant g (restored c)) (eqb r 1) (eqb o 16) refl refl))
 
-pub broken-again-is : (c : Call) → draftOf c (rowOf c (STAY + STOP-306 + BROKEN + OFF) 0) ≡ activeRestoring c Event.Break
+pub broken-again-is : (c : Call) → draftOf c (rowOf c (STAY + STOP-306 + BROKEN + PLANE-OFF) 0) ≡ activeRestoring c Event.Break
 unfolding verbs numbers activeRestoring
 broken-again-is c = refl
 
@@ -458,11 +458,11 @@ continued c false e = rw e refl
 pub continued-is : (c : Call) → draftOf c (rowOf c (CALL-ACTIVE + KEPT-PLANE + TX-INDICATION) 7) ≡ draft c ▷ go State.CallActive ▷ plane (c .kept) ▷ tell (Message.TxIndication 7)
 continued-is c = continued c (eqb (c .kept) 1) refl
 
-pub continued-off-is : (c : Call) → draftOf c (rowOf c (CALL-ACTIVE + OFF + TX-INDICATION) 8) ≡ draft c ▷ go State.CallActive ▷ off ▷ tell (Message.TxIndication 8)
+pub continued-off-is : (c : Call) → draftOf c (rowOf c (CALL-ACTIVE + PLANE-OFF + TX-INDICATION) 8) ≡ draft c ▷ go State.CallActive ▷ off ▷ tell (Message.TxIndication 8)
 unfolding verbs numbers
 continued-off-is c = refl
 
-pub pause-cut-is : (c : Call) → draftOf c (rowAsking c (CALL-ACTIVE + BROKEN + OFF + TX-INDICATION) (c .asked) 8) ≡ wait c Event.Break
+pub pause-cut-is : (c : Call) → draftOf c (rowAsking c (CALL-ACTIVE + BROKEN + PLANE-OFF + TX-INDICATION) (c .asked) 8) ≡ wait c Event.Break
 unfolding verbs numbers wait
 pause-cut-is c = refl
 

@@ -8,7 +8,7 @@ use Rattle.callcontrol.specs.declared.call.State.{State}
 use Rattle.callcontrol.specs.declared.call.Path.{Path}
 use Rattle.callcontrol.specs.declared.call.Call.{Call}
 
--- the places of the timers in the record's array
+-- the index of each timer in the record's array
 abbrev pub T301 : ℕ
 T301 = 0
 
@@ -84,6 +84,10 @@ isUp call = eqb (pathNumber (call .path)) (pathNumber Path.Up)
 abbrev pub isRestoring : Call → Bool
 isRestoring call = eqb (pathNumber (call .path)) (pathNumber Path.Restoring)
 
+-- the planes in which a set transmits
+abbrev pub transmits : ℕ → Bool
+transmits plane = eqb plane 1 || eqb plane 3
+
 -- a premise and what must then hold
 abbrev pub _⇒_ : Bool → Bool → Bool
 a ⇒ b = not a || b
@@ -123,12 +127,12 @@ mayLackId State.CallDisconnect = true
 
 -- plane is 4 unless CALL-ACTIVE with path up; path is up unless CALL-ACTIVE; kept plane is 4 unless WAIT;
 -- identifier 0 only in IDLE, MO-CALL-SETUP, CALL-DISCONNECT
-unfoldable pub placesAgree : Call → Bool
-placesAgree call =
+unfoldable pub stateAgrees : Call → Bool
+stateAgrees call =
     (eqb (call .plane) 4 || isActive call && isUp call) && (isUp call || isActive call)
     && (eqb (call .kept) 4 || isWait call)
     && (leb 1 (call .id) || mayLackId (call .state))
 
 -- what the paper calls sound
 unfoldable pub sound : Call → Bool
-sound call = inRange call && (isIdle call ⇒ asFresh call) && timersAgree call && placesAgree call
+sound call = inRange call && (isIdle call ⇒ asFresh call) && timersAgree call && stateAgrees call

@@ -10,7 +10,7 @@ use Rattle.callcontrol.specs.declared.call.State.{State}
 use Rattle.callcontrol.specs.declared.call.Path.{Path}
 use Rattle.callcontrol.specs.declared.call.Call.{Call}
 use Rattle.callcontrol.specs.Draft.{Draft}
-use Rattle.callcontrol.specs.Call.{runs, T301, T302, T303, T306, T308, T310, T311}
+use Rattle.callcontrol.specs.Call.{runs, transmits, T301, T302, T303, T306, T308, T310, T311}
 use Rattle.callcontrol.specs.Draft.{_▷_, draft, noRow, go, onPath, storeId, storeAddress, storeMode, storeAsked, storeSent, storeCode, storeSlots, keep, stop, stopAll, start, expired, restart, samePlane, plane, off, grant, grantOrOff, cancel, say, tell, tellModified, over, release}
 
 -- what several situations share
@@ -171,7 +171,7 @@ informed r o d s c =
 unfoldable pub cut : Call → Draft
 cut c =
     draft c
-    ▷ storeAsked (cond (eqb (c .plane) 1 || eqb (c .plane) 3) 1 (c .asked))
+    ▷ storeAsked (cond (transmits (c .plane)) 1 (c .asked))
     ▷ onPath Path.Broken
     ▷ off
 

@@ -66,8 +66,8 @@ PLANE-2 = 0x2000
 abbrev pub PLANE-3 : ℕ
 PLANE-3 = 0x3000
 
-abbrev pub OFF : ℕ
-OFF = 0x4000
+abbrev pub PLANE-OFF : ℕ
+PLANE-OFF = 0x4000
 
 abbrev pub SAME-PLANE : ℕ
 SAME-PLANE = 0x5000
@@ -192,13 +192,13 @@ EXPIRED-311 = 0x700000000000
 -- the network has ended the call, the end that this side asked for, and this side ends the call
 
 abbrev pub ENDED : ℕ
-ENDED = STOP-ALL + OFF + RELEASE-INDICATION + OVER
+ENDED = STOP-ALL + PLANE-OFF + RELEASE-INDICATION + OVER
 
 abbrev pub CONFIRMED : ℕ
-CONFIRMED = STOP-ALL + OFF + RELEASE-CONFIRM + OVER
+CONFIRMED = STOP-ALL + PLANE-OFF + RELEASE-CONFIRM + OVER
 
 abbrev pub RELEASE : ℕ
-RELEASE = STOP-ALL + U-DISCONNECT + START-308 + OFF + UNSENT + UP + CALL-DISCONNECT
+RELEASE = STOP-ALL + U-DISCONNECT + START-308 + PLANE-OFF + UNSENT + UP + CALL-DISCONNECT
 
 -- whether an order of one bit is in the sum
 unfoldable pub has : ℕ → ℕ → Bool
@@ -242,7 +242,7 @@ limitTimer o t =
 unfoldable pub limitIf : Bool → ℕ → Timing → Timing
 limitIf b o t = cond b (limitTimer o t) t
 
--- the timer that expired: 1 to 7 by its place, 0 for none
+-- the timer that expired: 1 to 7 in the order of their numbers, 0 for none
 unfoldable pub expiredBy : ℕ → Timing → Timing
 expiredBy n t =
     cond (eqb n 1) (expireTimer T301 t)
@@ -371,7 +371,7 @@ planeGranted g d = cond (eqb g 0) (cond (eqb d 1) PLANE-3 PLANE-1) (cond (eqb g 
 
 -- G, with off for 1 and 2
 unfoldable pub planeOrOff : ℕ → ℕ → ℕ
-planeOrOff g d = cond (eqb g 1) OFF (cond (eqb g 2) OFF (planeGranted g d))
+planeOrOff g d = cond (eqb g 1) PLANE-OFF (cond (eqb g 2) PLANE-OFF (planeGranted g d))
 
 unfoldable pub askedAfter : ℕ → ℕ → ℕ
 askedAfter g q = cond (eqb g 0) 0 (cond (eqb g 1) 0 q)

@@ -9,14 +9,14 @@ use lib.Seq.{sets}
 use Rattle.records.specs.declared.events.Event.{Event}
 use Rattle.records.specs.declared.events.Event.the-variants.{SetupRequest, SetupResponse, ReleaseRequest, TxRequest, DCallProceeding, DAlert, DConnect, DConnectAcknowledge, DSetup, DInfo, DTxGranted, DTxCeased, DTxInterrupt, DTxWait, DTxContinue, DCallRestore, DDisconnect, DRelease, ReportSent, ReportFailed, Break, Resume, Expiry}
 use Rattle.records.specs.declared.events.EventRead.{EventRead}
-use Rattle.records.specs.Tables.{Read, taken, refused, read}
+use Rattle.records.specs.Tables.{Read, taken, refused, read, flat}
 use Rattle.records.specs.Events.{events}
 use Rattle.callcontrol.specs.declared.call.Call.{Call}
 use Rattle.callcontrol.specs.Draft.{Draft}
 use Rattle.callcontrol.specs.declared.step.Answer.{Answer}
 use Rattle.callcontrol.specs.declared.step.Named.{Named}
 use Rattle.callcontrol.specs.declared.step.Stepped.{Stepped}
-use Rattle.callcontrol.specs.Call.{sound, isIdle}
+use Rattle.callcontrol.specs.Call.{sound, isIdle, transmits}
 use Rattle.callcontrol.specs.Rows.{rowFor}
 use Rattle.callcontrol.specs.Writing.{messagesIn, bytesOf}
 
@@ -70,35 +70,9 @@ differs c (Named.Id i) = not (eqb i (c .id)) && (not (eqb (c .id) 0) || isIdle c
 unfoldable pub otherCall : Call → Event → Bool
 otherCall c e = differs c (namedIn e)
 
--- the set has the U-plane to transmit
-abbrev pub transmits : Call → Bool
-transmits c = eqb (c .plane) 1 || eqb (c .plane) 3
-
--- D-INFO while the set transmits
+-- D-INFO (0206) while the set transmits
 abbrev pub overTransmission : Call → Event → Bool
-overTransmission c (SetupRequest a d q s) = false
-overTransmission c SetupResponse = false
-overTransmission c ReleaseRequest = false
-overTransmission c (TxRequest k) = false
-overTransmission c (DCallProceeding i) = false
-overTransmission c (DAlert i) = false
-overTransmission c (DConnect i g d o s) = false
-overTransmission c (DConnectAcknowledge i g o) = false
-overTransmission c (DSetup i a d) = false
-overTransmission c (DInfo i r o d s) = transmits c
-overTransmission c (DTxGranted i g) = false
-overTransmission c (DTxCeased i) = false
-overTransmission c (DTxInterrupt i g) = false
-overTransmission c (DTxWait i) = false
-overTransmission c (DTxContinue i k) = false
-overTransmission c (DCallRestore i g r o) = false
-overTransmission c (DDisconnect i) = false
-overTransmission c (DRelease i) = false
-overTransmission c ReportSent = false
-overTransmission c ReportFailed = false
-overTransmission c Break = false
-overTransmission c Resume = false
-overTransmission c (Expiry n) = false
+overTransmission c e = eqb (flat events e .kind) 0x0206 && transmits (c .plane)
 
 -- a row's messages into the lent buffer, where they fit
 unfoldable pub carried : Call → Draft → List ℕ → Outcome

@@ -1,6 +1,6 @@
 // The call record, and what makes it sound.
 ghost use mathlib.Core.Path.{_≡_};
-ghost use Rattle.callcontrol.specs.Call.{_⇒_, freshCall, isIdle, isActive, isWait, isUp, isRestoring, stateNumber, pathNumber, mayLackId, allStopped, inRange, asFresh, timersAgree, placesAgree, sound};
+ghost use Rattle.callcontrol.specs.Call.{_⇒_, freshCall, isIdle, isActive, isWait, isUp, isRestoring, transmits, stateNumber, pathNumber, mayLackId, allStopped, inRange, asFresh, timersAgree, stateAgrees, sound};
 
 // Where the call is. The numbers are those of a host's record.
 pub enum State {
@@ -53,7 +53,7 @@ pub struct Call {
     pub timers: [bool; 7],
 }
 
-// The places of the timers in a record's array.
+// The index of each timer in a record's array.
 pub const T301: usize = 0;
 
 pub const T302: usize = 1;
@@ -173,6 +173,13 @@ impl Call {
         path_number(path) == path_number(Path::Restoring)
     }
 
+    // The set has the U-plane to transmit.
+    pub fn transmits(self) -> bool
+        ensures { λ r. ⌜ r ≡ transmits (self .plane) ⌝ }
+    {
+        (self.plane == 1) | (self.plane == 3)
+    }
+
     fn all_stopped(self) -> bool
         ensures { λ r. ⌜ r ≡ allStopped self ⌝ }
     {
@@ -224,8 +231,8 @@ impl Call {
 
     // Plane is 4 unless CALL-ACTIVE with path up; path is up unless CALL-ACTIVE; kept plane is 4 unless WAIT; identifier 0 only in IDLE,
     // MO-CALL-SETUP, CALL-DISCONNECT.
-    fn places_agree(self) -> bool
-        ensures { λ r. ⌜ r ≡ placesAgree self ⌝ }
+    fn state_agrees(self) -> bool
+        ensures { λ r. ⌜ r ≡ stateAgrees self ⌝ }
     {
         let state = self.state;
         let active = self.is_active();
@@ -259,6 +266,6 @@ impl Call {
         if !self.timers_agree() {
             return false;
         }
-        self.places_agree()
+        self.state_agrees()
     }
 }

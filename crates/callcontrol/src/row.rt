@@ -57,7 +57,7 @@ pub const PLANE_2: u64 = 0x2000;
 
 pub const PLANE_3: u64 = 0x3000;
 
-pub const OFF: u64 = 0x4000;
+pub const PLANE_OFF: u64 = 0x4000;
 
 pub const SAME_PLANE: u64 = 0x5000;
 
@@ -144,13 +144,19 @@ pub const EXPIRED_310: u64 = 0x600000000000;
 pub const EXPIRED_311: u64 = 0x700000000000;
 
 // The network has ended the call.
-pub const ENDED: u64 = STOP_ALL + OFF + RELEASE_INDICATION + OVER;
+pub const ENDED: u64 = STOP_ALL + PLANE_OFF + RELEASE_INDICATION + OVER;
 
 // The end that this side asked for.
-pub const CONFIRMED: u64 = STOP_ALL + OFF + RELEASE_CONFIRM + OVER;
+pub const CONFIRMED: u64 = STOP_ALL + PLANE_OFF + RELEASE_CONFIRM + OVER;
 
 // This side ends the call; such a row also clears asked.
-pub const RELEASE: u64 = STOP_ALL + U_DISCONNECT + START_308 + OFF + UNSENT + UP + CALL_DISCONNECT;
+pub const RELEASE: u64 = STOP_ALL
+    + U_DISCONNECT
+    + START_308
+    + PLANE_OFF
+    + UNSENT
+    + UP
+    + CALL_DISCONNECT;
 
 impl Row {
     pub fn none() -> Self

@@ -1,9 +1,9 @@
 // The steps: for each situation, what each event does. A row is a sum of orders, and what has no row is refused. Beside a row stands its
 // clause of EN 300 392-2, or H for a house choice.
 ghost use mathlib.Core.Path.{_≡_};
-ghost use mathlib.Core.Bool.{cond, _||_};
+ghost use mathlib.Core.Bool.{cond};
 ghost use Prim.Native.Nat.{_+_, _≤_};
-ghost use lib.Dec.{eqb};
+ghost use Rattle.callcontrol.specs.Call.{transmits};
 ghost use Rattle.callcontrol.specs.Rows.{releasing, released, disconnected, expiry, idle, moCallSetup, mtCallSetup, demands, ceases, informed, cut, activeExpiry, activeUp, asks, activeBroken, activeRestoring, wait, callDisconnect, active, inState, rowFor};
 ghost use Rattle.callcontrol.specs.Settle.{draftOf, noneRow, rowAsking, RELEASE, RELEASE-INDICATION, planeGranted, planeOrOff, askedAfter, restarting, codeAfter, slotsAfter};
 use crate::call::Call;
@@ -34,11 +34,11 @@ use crate::row::KEPT_PLANE;
 use crate::row::MO_CALL_SETUP;
 use crate::row::MODIFY_INDICATION;
 use crate::row::MT_CALL_SETUP;
-use crate::row::OFF;
 use crate::row::OVER;
 use crate::row::PLANE_1;
 use crate::row::PLANE_2;
 use crate::row::PLANE_3;
+use crate::row::PLANE_OFF;
 use crate::row::PROCEED;
 use crate::row::RELEASE;
 use crate::row::RELEASE_CONFIRM;
@@ -141,10 +141,10 @@ pub fn plane_or_off(grant: u8, mode: u8) -> u64
     ensures { λ r. ⌜ r ≤ 0x4000 ⌝ }
 {
     if grant == 1 {
-        return OFF;
+        return PLANE_OFF;
     }
     if grant == 2 {
-        return OFF;
+        return PLANE_OFF;
     }
     plane_granted(grant, mode)
 }
@@ -355,7 +355,7 @@ fn ceases(call: Call) -> Row
     ensures { λ r. ⌜ draftOf call r ≡ ceases call ⌝ }
 {
     if call.plane == 1 {
-        return Row::of(call, STAY + U_TX_CEASED + OFF, 0);
+        return Row::of(call, STAY + U_TX_CEASED + PLANE_OFF, 0);
     }
     if call.asked == 1 {
         return Row::asking(call, STAY + U_TX_CEASED, 0, 0);
@@ -380,7 +380,7 @@ fn informed(call: Call, reset: u8, code: u8, mode: u8, slots: u8) -> Row
         };
     }
     Row {
-        orders: STAY + OFF + MODIFY_INDICATION + restarting(reset),
+        orders: STAY + PLANE_OFF + MODIFY_INDICATION + restarting(reset),
         id: call.id,
         address: call.address,
         mode,
@@ -393,12 +393,9 @@ fn informed(call: Call, reset: u8, code: u8, mode: u8, slots: u8) -> Row
 
 // BREAK with path up: a permission that is cut is asked for again (H).
 pub fn asked_after_cut(call: Call) -> u8
-    ensures { λ r. ⌜ r ≡ cond (eqb (call .plane) 1 || eqb (call .plane) 3) 1 (call .asked) ⌝ }
+    ensures { λ r. ⌜ r ≡ cond (transmits (call .plane)) 1 (call .asked) ⌝ }
 {
-    if call.plane == 1 {
-        return 1; // a transmission is cut
-    }
-    if call.plane == 3 {
+    if call.transmits() {
         return 1;
     }
     call.asked
@@ -408,7 +405,7 @@ pub fn asked_after_cut(call: Call) -> u8
 fn cut(call: Call) -> Row
     ensures { λ r. ⌜ draftOf call r ≡ cut call ⌝ }
 {
-    Row::asking(call, STAY + BROKEN + OFF, asked_after_cut(call), 0)
+    Row::asking(call, STAY + BROKEN + PLANE_OFF, asked_after_cut(call), 0)
 }
 
 // Expiry with path up: T311 ends the transmission (14.5.1.2.1).
@@ -418,7 +415,7 @@ fn active_expiry(timer: u16, call: Call) -> Row
     let timers = call.timers;
     if timer == 311 {
         if timers[T311] {
-            return Row::of(call, EXPIRED_311 + STAY + U_TX_CEASED + OFF, 0);
+            return Row::of(call, EXPIRED_311 + STAY + U_TX_CEASED + PLANE_OFF, 0);
         }
         return Row::none();
     }
@@ -456,16 +453,16 @@ fn active_up(call: Call, event: Event) -> Row
             value: grant,
         },
         // 14.5.1.2.1
-        Event::DTxCeased { id: _ } => Row::of(call, STAY + OFF + TX_INDICATION, 4),
+        Event::DTxCeased { id: _ } => Row::of(call, STAY + PLANE_OFF + TX_INDICATION, 4),
         // 14.5.1.2.1
         Event::DTxInterrupt { id: _, grant } => {
             if grant == 3 {
                 return Row::of(call, STAY + PLANE_2 + TX_INDICATION, 5);
             }
-            Row::of(call, STAY + OFF + TX_INDICATION, 5)
+            Row::of(call, STAY + PLANE_OFF + TX_INDICATION, 5)
         }
         // 14.5.1.2.1
-        Event::DTxWait { id: _ } => Row::of(call, WAIT + OFF + TX_INDICATION, 6),
+        Event::DTxWait { id: _ } => Row::of(call, WAIT + PLANE_OFF + TX_INDICATION, 6),
         Event::DDisconnect { id } => disconnected(id, call),
         Event::DRelease { id: _ } => released(call),
         Event::Break => cut(call),
@@ -542,7 +539,7 @@ fn active_restoring(call: Call, event: Event) -> Row
         Event::DDisconnect { id } => disconnected(id, call),
         Event::DRelease { id: _ } => released(call),
         // 14.5.1.2.4
-        Event::Break => Row::of(call, STAY + STOP_306 + BROKEN + OFF, 0),
+        Event::Break => Row::of(call, STAY + STOP_306 + BROKEN + PLANE_OFF, 0),
         Event::Expiry { timer } => expiry(timer, call),
         _ => Row::none(),
     }
@@ -558,14 +555,14 @@ fn wait(call: Call, event: Event) -> Row
             if go == 1 {
                 return Row::of(call, CALL_ACTIVE + KEPT_PLANE + TX_INDICATION, 7);
             }
-            Row::of(call, CALL_ACTIVE + OFF + TX_INDICATION, 8)
+            Row::of(call, CALL_ACTIVE + PLANE_OFF + TX_INDICATION, 8)
         }
         Event::DDisconnect { id } => disconnected(id, call),
         Event::DRelease { id: _ } => released(call),
         // 14.5.1.2.4: the permission was lost with the pause, so asked stays.
         Event::Break => Row::asking(
             call,
-            CALL_ACTIVE + BROKEN + OFF + TX_INDICATION,
+            CALL_ACTIVE + BROKEN + PLANE_OFF + TX_INDICATION,
             call.asked,
             8,
         ),

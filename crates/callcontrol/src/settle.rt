@@ -18,7 +18,6 @@ use crate::draft::Drafted;
 use crate::draft::Slot;
 use crate::row::CANCEL;
 use crate::row::EXPIRED_301;
-use crate::row::OFF;
 use crate::row::OVER;
 use crate::row::PLANE_1;
 use crate::row::Row;
@@ -318,17 +317,24 @@ fn pdu_by(row: Row) -> Slot
     let ask = row.asked;
     let value = row.value;
     match row.orders / U_SETUP % 16 {
+        // U_SETUP
         1 => Slot::Holds(Message::USetup {
             address,
             mode,
             ask,
             slots: value,
         }),
+        // U_CONNECT
         2 => Slot::Holds(Message::UConnect { id }),
+        // U_DISCONNECT
         3 => Slot::Holds(Message::UDisconnect { id, cause: value }),
+        // U_RELEASE
         4 => Slot::Holds(Message::URelease { id }),
+        // U_TX_DEMAND
         5 => Slot::Holds(Message::UTxDemand { id }),
+        // U_TX_CEASED
         6 => Slot::Holds(Message::UTxCeased { id }),
+        // U_CALL_RESTORE
         7 => Slot::Holds(Message::UCallRestore { id, address, ask }),
         _ => Slot::Empty,
     }
@@ -343,14 +349,23 @@ fn user_by(row: Row) -> Slot
     let slots = row.slots;
     let value = row.value;
     match row.orders / SETUP_INDICATION % 16 {
+        // SETUP_INDICATION
         1 => Slot::Holds(Message::SetupIndication { id, address, mode }),
+        // SETUP_CONFIRM
         2 => Slot::Holds(Message::SetupConfirm { id, grant: value }),
+        // PROCEED
         3 => Slot::Holds(Message::Proceed),
+        // ALERT
         4 => Slot::Holds(Message::Alert),
+        // COMPLETE
         5 => Slot::Holds(Message::Complete { grant: value }),
+        // RELEASE_INDICATION
         6 => Slot::Holds(Message::ReleaseIndication { cause: value }),
+        // RELEASE_CONFIRM
         7 => Slot::Holds(Message::ReleaseConfirm),
+        // TX_INDICATION
         8 => Slot::Holds(Message::TxIndication { told: value }),
+        // MODIFY_INDICATION
         9 => Slot::Holds(Message::ModifyIndication { mode, slots }),
         _ => Slot::Empty,
     }

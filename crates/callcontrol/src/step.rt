@@ -2,7 +2,7 @@
 ghost use mathlib.Core.Path.{_≡_};
 ghost use Prim.Native.Nat.{_<_};
 ghost use Rattle.callcontrol.specs.Draft.{asDraft};
-ghost use Rattle.callcontrol.specs.Step.{answerNumber, refusing, namedIn, differs, otherCall, transmits, overTransmission, carried, decided, stepOf, asOutcome, unreadAs, placeIn};
+ghost use Rattle.callcontrol.specs.Step.{answerNumber, refusing, namedIn, differs, otherCall, overTransmission, carried, decided, stepOf, asOutcome, unreadAs, placeIn};
 use crate::call::Call;
 use crate::draft::Drafted;
 use crate::rows::row_for;
@@ -135,13 +135,6 @@ fn other_call(call: Call, event: Event) -> bool
     (id != call.id) & ((call.id != 0) | call.is_idle())
 }
 
-// Whether the set has the U-plane to transmit.
-fn transmits(call: Call) -> bool
-    ensures { λ r. ⌜ r ≡ transmits call ⌝ }
-{
-    (call.plane == 1) | (call.plane == 3)
-}
-
 // D-INFO while the set transmits: a change of service would clip the speaker's words.
 fn over_transmission(call: Call, event: Event) -> bool
     ensures { λ r. ⌜ r ≡ overTransmission call event ⌝ }
@@ -153,7 +146,7 @@ fn over_transmission(call: Call, event: Event) -> bool
             code: _,
             mode: _,
             slots: _,
-        } => transmits(call),
+        } => call.transmits(),
         _ => false,
     }
 }

@@ -19,7 +19,7 @@ use Rattle.callcontrol.specs.Call.{freshCall, isIdle, sound}
 use Rattle.callcontrol.specs.Writing.{bytesOf}
 use Rattle.callcontrol.specs.Step.{Outcome}
 use Rattle.demands.specs.Runs.{Turn, outcome, run, next, told, takenBy, ends}
-use Rattle.demands.specs.Demands.{quiet}
+use Rattle.demands.specs.Demands.{Restoration, quiet}
 use Rattle.demands.proofs.Facts.{apart}
 use Rattle.demands.proofs.Turns as step-runs
 use Rattle.demands.proofs.Demands as step-demands
@@ -160,7 +160,7 @@ module _ (ts us : List ConsoleTurn) (t : ConsoleTurn) (k : ℕ) (v : Turn) (lt :
         ∙ ap (λ (z : List Turn). next (run freshCall z) x) (split ts us t k v went)
         ∙ sym (step-runs.run-last freshCall (before ++ v ∷ later) x)
 
-    restored-record : claims.Restoration (claims.at k ts) (claims.at k (ts ++ t ∷ us ++ w ∷ [])) i r o
+    restored-record : Restoration (claims.at k ts) (claims.at k (ts ++ t ∷ us ++ w ∷ [])) i r o
     restored-record =
         let d = step-demands.restored before later v x i g r o step-broke step-calm (ap (λ (c : Call). takenBy c x) (sym now-is) ∙ restores) in
         rw (records ts k lt, then-is) d

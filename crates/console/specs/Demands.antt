@@ -1,10 +1,9 @@
 -- What holds of every run of the console from eight fresh records, and some of it of every table, as types. proofs/Demands, Answering, Heard and Timers have a proof of each.
 use Prim.Native.Nat.{ℕ, _<_, _≤_}
 use mathlib.Core.Path.{_≡_}
-use mathlib.Core.Bool.{Bool, true, false, cond, not, _||_}
+use mathlib.Core.Bool.{Bool, true, false}
 use mathlib.Core.List.{List, [], _∷_, _++_}
 use mathlib.Core.Option.{some}
-use lib.Dec.{eqb}
 use lib.ListN.{length, take}
 use lib.Seq.{sets}
 use Rattle.records.specs.declared.events.Event.{Event}
@@ -12,15 +11,13 @@ use Rattle.records.specs.declared.events.Event.the-variants.{ReleaseRequest, DI
 use Rattle.records.specs.declared.messages.Message.{Message}
 use Rattle.records.specs.Tables.{taken, refused, read}
 use Rattle.records.specs.Events.{events}
-use Rattle.callcontrol.specs.declared.call.State.{State}
-use Rattle.callcontrol.specs.declared.call.Path.{Path}
 use Rattle.callcontrol.specs.declared.call.Call.{Call}
-use Rattle.callcontrol.specs.Call.{freshCall, isIdle, runs, T310}
+use Rattle.callcontrol.specs.Call.{freshCall, isIdle, transmits}
 use Rattle.callcontrol.specs.Writing.{bytesOf}
 use Rattle.demands.specs.Runs.{Turn, outcome, run, takenBy, takenIn, writtenIn, every?, told, ends, isUDisconnect, isURelease}
 use Rattle.demands.specs.Clocks.{logIn, runningBy, runsBy}
 use Rattle.demands.specs.History.{planeByHistory}
-use Rattle.demands.specs.Demands.{Reads, quiet, oneCall, count, OnlyDue, AtRest, limits}
+use Rattle.demands.specs.Demands.{Reads, Restoration, quiet, oneCall, count, OnlyDue, AtRest, limits}
 use Rattle.console.specs.declared.route.Aim.{Aim}
 use Rattle.console.specs.declared.route.Route.{Route}
 use Rattle.console.specs.Table.{callAt, freshTable, some?, tableSound}
@@ -132,18 +129,6 @@ CutAt =
     told (turnsAt k (ts ++ t ∷ us)) ≡ 4
 
 -- the call that a D-CALL RESTORE then restores at place k is the call that was cut there
-abbrev pub Restoration : Call → Call → (i r o : ℕ) → Type 0
-Restoration c d i r o =
-    (i ≡ c .id)
-    × (d .id ≡ c .id)
-    × (d .address ≡ c .address)
-    × (d .mode ≡ c .mode)
-    × (d .slots ≡ c .slots)
-    × (d .code ≡ cond (eqb r 1) (cond (eqb o 16) (c .code) o) (c .code))
-    × (runs d T310 ≡ cond (eqb r 1) (not (eqb (d .code) 0)) (runs c T310))
-    × (d .state ≡ State.CallActive)
-    × (d .path ≡ Path.Up)
-
 abbrev pub RestoredAt : Type 0
 RestoredAt =
     (ts us : List ConsoleTurn) (t w : ConsoleTurn) (k : ℕ) (v x : Turn) (i g r o : ℕ) → k < 8 →
@@ -268,5 +253,5 @@ NoLimitNoExpiryAt =
 abbrev pub NoInfoOverSpeechAt : Type 0
 NoInfoOverSpeechAt =
     (ts : List ConsoleTurn) (t : ConsoleTurn) (k : ℕ) (v : Turn) (i r o d s : ℕ) → k < 8 →
-    (eqb (told (turnsAt k ts)) 1 || eqb (told (turnsAt k ts)) 3) ≡ true →
+    transmits (told (turnsAt k ts)) ≡ true →
     wentTo k (after ts) t ≡ v ∷ [] → takenBy (at k ts) v ≡ some (DInfo i r o d s) → ⊥

@@ -125,9 +125,9 @@ onPlane x d =
 module _ {c : Call} {s : State} {p m k : ℕ} {d : Draft} where
   -- verbs that change none of it
 
-  pub placed : (x : Path) → Drawn c s p m k d → Drawn c s p m k (onPath x d)
+  pub on-path : (x : Path) → Drawn c s p m k d → Drawn c s p m k (onPath x d)
   unfolding onPath
-  placed x f = record { is = f .is }
+  on-path x f = record { is = f .is }
 
   pub named : (x : ℕ) → Drawn c s p m k d → Drawn c s p m k (storeId x d)
   unfolding storeId
@@ -239,7 +239,7 @@ ended f = let g = f .is in drawn refl refl refl refl (g .tells) (g .pdu-plain) (
 pub releases : {c : Call} {s : State} {p m k : ℕ} {d : Draft} (cause : ℕ) → Drawn c s p m k d → Drawn c State.CallDisconnect 4 m 4 (release cause d)
 unfolding release toldAfter
 releases cause f =
-    f ▷ stopped-all ▷ saying _ (λ q. refl) ▷ started T308 ▷ switched-off ▷ sending 0 ▷ asking 0 ▷ placed Path.Up ▷ gone State.CallDisconnect
+    f ▷ stopped-all ▷ saying _ (λ q. refl) ▷ started T308 ▷ switched-off ▷ sending 0 ▷ asking 0 ▷ on-path Path.Up ▷ gone State.CallDisconnect
 
 -- grant rule G
 module _ {c : Call} {s : State} {m k : ℕ} where

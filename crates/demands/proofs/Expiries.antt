@@ -26,7 +26,7 @@ use Rattle.callcontrol.specs.Writing.{messagesIn, bytesOf}
 use Rattle.callcontrol.specs.Step.{Outcome, refusal, otherCall, overTransmission, carried, decided, stepOf}
 use Rattle.callcontrol.proofs.Verbs.{verbs}
 use Rattle.demands.specs.Runs.{Turn, outcome, next, run, takenBy}
-use Rattle.demands.specs.Clocks.{logIn, place, runsBy}
+use Rattle.demands.specs.Clocks.{logIn, indexOf, runsBy}
 use Rattle.demands.specs.Demands.{Kept, ReleaseLeavesFresh, LateExpiry, DueExpiry}
 use Rattle.demands.proofs.Facts.{apart, left, right, second}
 use Rattle.demands.proofs.ByRow.{Ender, t301, t302, t303, t306, t310, Row, Cell, cell, row, no-row}
@@ -82,21 +82,21 @@ release-ours c = refl
 
 -- ---- an expiry that has a row is of a timer that runs
 
-ender-runs : (c : Call) {n k : ℕ} → Ender n k → runs c k ≡ true → runs c (place n) ≡ true
-unfolding place
+ender-runs : (c : Call) {n k : ℕ} → Ender n k → runs c k ≡ true → runs c (indexOf n) ≡ true
+unfolding indexOf
 ender-runs c {n = n} (t301 e) h = rw (eqb-true n 301 e) h
 ender-runs c {n = n} (t302 e) h = rw (eqb-true n 302 e) h
 ender-runs c {n = n} (t303 e) h = rw (eqb-true n 303 e) h
 ender-runs c {n = n} (t306 e) h = rw (eqb-true n 306 e) h
 ender-runs c {n = n} (t310 e) h = rw (eqb-true n 310 e) h
 
-row-runs : {c : Call} {s : State} {w : Path} {n : ℕ} {x : Draft} → Row c s w (Expiry n) x → runs c (place n) ≡ true
-unfolding place
+row-runs : {c : Call} {s : State} {w : Path} {n : ℕ} {x : Draft} → Row c s w (Expiry n) x → runs c (indexOf n) ≡ true
+unfolding indexOf
 row-runs {c} (Row.expires l n k t z) = ender-runs c t z
 row-runs (Row.talked-out n z y) = rw (eqb-true n 311 z) y
 row-runs {c} (Row.unanswered n z) = rw (eqb-true n 308 (left _ _ z)) (right (eqb n 308) _ z)
 
-late-row : (c : Call) (n : ℕ) → runs c (place n) ≡ false → rowFor c (Expiry n) .taken ≡ false
+late-row : (c : Call) (n : ℕ) → runs c (indexOf n) ≡ false → rowFor c (Expiry n) .taken ≡ false
 unfolding noRow
 late-row c n h = by-cell (cell c (Expiry n))
   where
@@ -104,8 +104,8 @@ late-row c n h = by-cell (cell c (Expiry n))
     by-cell no-row = refl
     by-cell (row r) = apart (row-runs r) h
 
-pub by-messages : (ts : List Turn) (n : ℕ) → runsBy (logIn freshCall ts) n ≡ runs (run freshCall ts) (place n)
-by-messages ts n = ap (λ (f : List Bool). getD f (place n) false) (timers-by-messages ts)
+pub by-messages : (ts : List Turn) (n : ℕ) → runsBy (logIn freshCall ts) n ≡ runs (run freshCall ts) (indexOf n)
+by-messages ts n = ap (λ (f : List Bool). getD f (indexOf n) false) (timers-by-messages ts)
 
 pub late-expiry : LateExpiry
 late-expiry ts t n reads late =
@@ -177,10 +177,10 @@ is-timer n h = left _ _ (left _ _ h)
 ripe : (n k : ℕ) (c : Call) → due n k c ≡ true → runs c k ≡ true → rowFor c (Expiry n) .taken ≡ true
 ripe n k c d z = second (not (runs c k)) _ d (rw z)
 
-due-row : (c : Call) (n : ℕ) → all-due c ≡ true → isTimer n ≡ true → runs c (place n) ≡ true → rowFor c (Expiry n) .taken ≡ true
-unfolding place
+due-row : (c : Call) (n : ℕ) → all-due c ≡ true → isTimer n ≡ true → runs c (indexOf n) ≡ true → rowFor c (Expiry n) .taken ≡ true
+unfolding indexOf
 due-row c n h =
-    seven-timers (λ m. runs c (place m) ≡ true → rowFor c (Expiry m) .taken ≡ true)
+    seven-timers (λ m. runs c (indexOf m) ≡ true → rowFor c (Expiry m) .taken ≡ true)
     (ripe 301 T301 c (search (left, right) depth 8))
     (ripe 302 T302 c (search (left, right) depth 8))
     (ripe 303 T303 c (search (left, right) depth 8))

@@ -1,4 +1,4 @@
--- Small facts about Booleans and choices, each in one place.
+-- Small facts about Booleans and choices, each written once.
 use Prim.Native.Nat.{ℕ}
 use mathlib.Core.Path.{_≡_, refl}
 use mathlib.Core.Bool.{Bool, true, false, cond, not, _&&_, _||_}

@@ -1,6 +1,6 @@
 -- Outside IDLE the identifier of the record is the one that the network gave to the call, by the taken events alone: a row stores the
 -- identifier that its event brings to the call, and no other row changes it. So a set transmits only with the identifier of its call.
-use Prim.Native.Nat.{ℕ}
+use Prim.Native.Nat.{ℕ, zero, suc}
 use mathlib.Core.Path.{_≡_, refl, _∙_}
 use mathlib.Core.Bool.{Bool, true, false, cond, _||_}
 use mathlib.Core.List.{List, [], _∷_, _++_}
@@ -25,7 +25,7 @@ use Rattle.demands.proofs.Cases.{by-plane, by-restart, by-grant, by-gra
 use Rattle.demands.proofs.Situations.{At, idle, situated}
 use Rattle.demands.proofs.Turns.{Turned, passed, took, turned, accepts}
 use Rattle.demands.proofs.Sound.{fresh-is-sound, step-keeps-sound, always}
-use Rattle.demands.proofs.Places.{plane-on}
+use Rattle.demands.proofs.Planes.{plane-on}
 use Rattle.demands.proofs.Told.{told-is-plane}
 
 -- ---- the verbs that ask about numbers change no identifier
@@ -139,5 +139,5 @@ transmits ts on =
 
 -- D-INFO then is refused with 8 at the latest
 pub no-info-over-speech : NoInfoOverSpeech
-no-info-over-speech ts t i r o d s on h =
-    apart (rw (told-is-plane ts) at on) (accepts (run freshCall ts) t (DInfo i r o d s) h .silent)
+no-info-over-speech ts t i r o d zero on h = apart (rw (told-is-plane ts) at on) (accepts (run freshCall ts) t (DInfo i r o d 0) h .silent)
+no-info-over-speech ts t i r o d (suc s) on h = apart (rw (told-is-plane ts) at on) (accepts (run freshCall ts) t (DInfo i r o d (suc s)) h .silent)

@@ -20,7 +20,7 @@ use Rattle.callcontrol.specs.Rows
 use Rattle.callcontrol.specs.Rows.{rowFor}
 use Rattle.callcontrol.proofs.Verbs.{verbs}
 use Rattle.demands.specs.Runs.{Turn, next, run, takenBy}
-use Rattle.demands.specs.Clocks.{runningBy, noteLog, place}
+use Rattle.demands.specs.Clocks.{runningBy, noteLog, indexOf}
 use Rattle.demands.specs.Demands.{OnlyDue, AtMostThreeDue, NoneAfterThree, AtRest, over, rings, talks, pauses, NoneRuns, NoLimitNoExpiry}
 use Rattle.demands.proofs.ByRow.{Live, Ender, t301, t302, t303, t306, t310, Row, is-row}
 use Rattle.demands.proofs.Turns.{accepts, run-last, run-append}
@@ -193,5 +193,5 @@ clockless wait h = rw h
 clockless disconnect h = refl
 
 pub no-limit-no-expiry : NoLimitNoExpiry
-unfolding place
+unfolding indexOf
 no-limit-no-expiry ts t h reads = late-expiry ts t 310 reads (by-messages ts 310 ∙ clockless (reached ts) h)

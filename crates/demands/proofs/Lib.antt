@@ -15,7 +15,7 @@ pub mod Identified
 pub mod Lapses
 pub mod Limits
 pub mod Once
-pub mod Places
+pub mod Planes
 pub mod Ranges
 pub mod Reading
 pub mod ReadsBack

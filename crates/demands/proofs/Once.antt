@@ -1,6 +1,6 @@
 -- One call writes at most one U-DISCONNECT and at most one U-RELEASE: the first by a row that leads to CALL-DISCONNECT, where no row writes one; the
 -- second by a row that ends the call.
-use Prim.Native.Nat.{ℕ, _+_, _≤_}
+use Prim.Native.Nat.{ℕ, zero, suc, _+_, _≤_}
 use mathlib.Core.Path.{_≡_, refl}
 use mathlib.Core.Bool.{Bool, true, false, cond, not}
 use mathlib.Core.List.{List, [], _∷_, _++_}
@@ -19,7 +19,7 @@ use Rattle.callcontrol.specs.Rows
 use Rattle.callcontrol.specs.Rows.{rowFor}
 use Rattle.callcontrol.specs.Writing.{when, held, byNumber, starting, messagesIn}
 use Rattle.callcontrol.proofs.Verbs.{verbs}
-use Rattle.demands.specs.Runs.{Turn, outcome, next, run, writtenBy, writtenIn, isUDisconnect, isURelease}
+use Rattle.demands.specs.Runs.{Turn, outcome, next, run, writtenBy, writtenIn, isUDisconnect, isURelease, ofKind}
 use Rattle.demands.specs.Demands.{Kept, count, oneCall, OneUDisconnect, OneURelease}
 use Rattle.demands.proofs.Facts.{apart, left, right, is-not}
 use Rattle.demands.proofs.ByRow.{Live, calling, called, talking, waiting, Row, is-row}
@@ -107,12 +107,13 @@ module _ (x : Draft) (h : x .pdu ≡ Slot.Empty) where
   tells-only m d e f = neither (rw (h, e)) (rw (h, f)) (λ z. rw d (due-most (x .call .state)))
 
 sends : {c : Call} {s : State} {w : Path} {e : Event} {x : Draft} → Row c s w e x → At s w c → Sends s x
-unfolding verbs isUDisconnect isURelease Rows.releasing Rows.disconnected Rows.released Rows.confirmed
+unfolding verbs ofKind Rows.releasing Rows.disconnected Rows.released Rows.confirmed
 sends (Row.releases l) v = u-disconnect (live l) refl refl refl
 sends (Row.disconnects l i) v = u-release refl refl refl
 sends (Row.ends l i) v = neither refl refl (λ z. apart refl z)
 sends (Row.expires l n k t z) v = u-disconnect (live l) refl refl refl
-sends (Row.calls a d q s) v = neither refl refl (λ z. lit≤ tt)
+sends (Row.calls a d q zero) v = neither refl refl (λ z. lit≤ tt)
+sends (Row.calls a d q (suc s)) v = neither refl refl (λ z. lit≤ tt)
 sends (Row.is-called i a d) v = neither refl refl (λ z. lit≤ tt)
 sends (Row.takes-back r) v = neither refl refl (λ z. apart refl z)
 sends (Row.releases-sent r) v = u-disconnect refl refl refl refl
@@ -166,11 +167,11 @@ record Fall (p : Message → Bool) (allowed : State → ℕ) (before : State) (m
   then : isIdle after ≡ false → count p ms + allowed (after .state) ≤ allowed before
 
 discs : (d : Draft) → count isUDisconnect (messagesIn d) ≡ inSlots isUDisconnect d
-unfolding isUDisconnect
+unfolding ofKind
 discs d = in-slots isUDisconnect (λ n. refl) (λ n o. refl) (λ n. refl) refl d
 
 rels : (d : Draft) → count isURelease (messagesIn d) ≡ inSlots isURelease d
-unfolding isURelease
+unfolding ofKind
 rels d = in-slots isURelease (λ n. refl) (λ n o. refl) (λ n. refl) refl d
 
 disconnect-falls : {s : State} {x : Draft} → Sends s x → Fall isUDisconnect due s (messagesIn x) (x .call)

@@ -11,7 +11,7 @@ use lib.ListN.{length}
 use Rattle.callcontrol.specs.declared.call.State.{State}
 use Rattle.callcontrol.specs.declared.call.Path.{Path}
 use Rattle.callcontrol.specs.declared.call.Call.{Call}
-use Rattle.callcontrol.specs.Call.{_⇒_, freshCall, stateNumber, pathNumber, isIdle, isActive, isUp, mayLackId, runs, T301, T302, T303, T306, T308, T310, T311, sound, inRange, asFresh, allStopped, timersAgree, placesAgree}
+use Rattle.callcontrol.specs.Call.{_⇒_, freshCall, stateNumber, pathNumber, isIdle, isActive, isUp, mayLackId, runs, T301, T302, T303, T306, T308, T310, T311, sound, inRange, asFresh, allStopped, timersAgree, stateAgrees}
 use Rattle.demands.specs.Demands.{Kept}
 use Rattle.demands.proofs.Facts.{and, left, right}
 
@@ -95,7 +95,7 @@ ranged c n p k = search (and, le-leb, plane-fits p .0, plane-fits p .1, plane-fi
 ruleset meeting = (and, or-left, or-true, ranged, none, le-leb)
 
 pub kept : {s : State} {w : Path} {c : Call} → At s w c → Kept c
-unfolding sound asFresh allStopped timersAgree placesAgree inRange
+unfolding sound asFresh allStopped timersAgree stateAgrees inRange
 kept idle = record { size = refl; meets = refl }
 kept (mo n) = record { size = refl; meets = search meeting depth 8 }
 kept (mt l n) = record { size = refl; meets = search meeting depth 8 }
@@ -147,7 +147,7 @@ unfolding inRange
 held-of c h = search (left, right, plane-of) depth 12
 
 pub clauses : (c : Call) → sound c ≡ true → Clauses c
-unfolding sound timersAgree placesAgree
+unfolding sound timersAgree stateAgrees
 clauses c h = search (left, right, numbers-of, told-of, held-of, agree)
 
 or-no : (a : Bool) → (a || false) ≡ true → a ≡ true

@@ -23,7 +23,7 @@ use Rattle.demands.specs.Demands.{Kept, Told}
 use Rattle.demands.proofs.Reading.{read-fine}
 use Rattle.demands.proofs.Turns.{Turned, passed, took, turned}
 use Rattle.demands.proofs.Sound.{fresh-is-sound, keeps-sound}
-use Rattle.demands.proofs.Places.{plane-some}
+use Rattle.demands.proofs.Planes.{plane-some}
 use Rattle.demands.proofs.Drawn.{Tells, silent, loud, lastTold-append, messages-tell}
 use Rattle.demands.proofs.Follows.{Fits, Agrees, Lands, follows}
 

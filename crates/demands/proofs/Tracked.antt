@@ -22,7 +22,7 @@ use Rattle.callcontrol.specs.Rows.{rowFor}
 use Rattle.callcontrol.specs.Writing.{when, byNumber, starting, messagesIn}
 use Rattle.callcontrol.proofs.Verbs.{verbs}
 use Rattle.demands.specs.Runs.{Turn, next, run, takenBy, writtenBy}
-use Rattle.demands.specs.Clocks.{logIn, place, noteMessage, noteMessages, noteExpiry, noteTaken, noteLog, runningBy}
+use Rattle.demands.specs.Clocks.{logIn, indexOf, noteMessage, noteMessages, noteExpiry, noteTaken, noteLog, runningBy}
 use Rattle.demands.specs.Demands.{TimersByMessages, NoneInIdle}
 use Rattle.demands.proofs.Facts.{apart, left}
 use Rattle.demands.proofs.Ended.{idle-is-fresh}
@@ -37,7 +37,7 @@ data Tracks (ts : List Bool) (x : Draft) : Type 0 where
   by : noteMessages ts (messagesIn x) ≡ x .call .timers → Tracks ts x
 
 flagged : Unit {0}
-unfolding noteMessages noteMessage noteExpiry place messagesIn byNumber starting verbs Rows.releasing Rows.disconnected Rows.released Rows.confirmed
+unfolding noteMessages noteMessage noteExpiry indexOf messagesIn byNumber starting verbs Rows.releasing Rows.disconnected Rows.released Rows.confirmed
 flagged = tt
 
 abbrev lapse : ℕ → Call → Draft

@@ -23,9 +23,9 @@ unfoldable pub logIn : Call → List Turn → List Entry
 logIn c [] = []
 logIn c (t ∷ ts) = record { taken = takenBy c t; written = writtenBy c t } ∷ logIn (next c t) ts
 
--- the place of a timer among the seven, by its number
-unfoldable pub place : ℕ → ℕ
-place n =
+-- a timer's index in the record's array, by its number
+unfoldable pub indexOf : ℕ → ℕ
+indexOf n =
     cond (eqb n 301) T301
     (cond (eqb n 302) T302 (cond (eqb n 303) T303 (cond (eqb n 306) T306 (cond (eqb n 308) T308 (cond (eqb n 310) T310 T311)))))
 
@@ -39,8 +39,8 @@ noteMessage f (UInfo i d) = f
 noteMessage f (UTxDemand i) = f
 noteMessage f (UTxCeased i) = f
 noteMessage f (UCallRestore i a q) = f
-noteMessage f (Stop n) = set f (place n) false
-noteMessage f (Start n o) = set f (place n) true
+noteMessage f (Stop n) = set f (indexOf n) false
+noteMessage f (Start n o) = set f (indexOf n) true
 noteMessage f (Configure p) = f
 noteMessage f Cancel = f
 noteMessage f (Place at) = f
@@ -83,7 +83,7 @@ noteExpiry f ReportSent = f
 noteExpiry f ReportFailed = f
 noteExpiry f Break = f
 noteExpiry f Resume = f
-noteExpiry f (Expiry n) = set f (place n) false
+noteExpiry f (Expiry n) = set f (indexOf n) false
 
 abbrev pub noteTaken : List Bool → Option Event → List Bool
 noteTaken f none = f
@@ -100,4 +100,4 @@ runningBy xs = noteLog (false ∷ false ∷ false ∷ false ∷ false ∷ false 
 
 -- whether one of them runs, by its number
 abbrev pub runsBy : List Entry → ℕ → Bool
-runsBy xs n = getD (runningBy xs) (place n) false
+runsBy xs n = getD (runningBy xs) (indexOf n) false

@@ -20,7 +20,7 @@ use Rattle.records.specs.Messages.{messages}
 use Rattle.callcontrol.specs.declared.call.State.{State}
 use Rattle.callcontrol.specs.declared.call.Path.{Path}
 use Rattle.callcontrol.specs.declared.call.Call.{Call}
-use Rattle.callcontrol.specs.Call.{freshCall, sound, pathNumber, runs, isIdle, T301, T302, T310}
+use Rattle.callcontrol.specs.Call.{freshCall, sound, pathNumber, runs, transmits, isIdle, T301, T302, T310}
 use Rattle.callcontrol.specs.Rows.{rowFor}
 use Rattle.callcontrol.specs.Writing.{messagesIn, bytesOf}
 use Rattle.callcontrol.specs.Step.{refusal, refusalAt, stepOf, otherCall, overTransmission}
@@ -277,21 +277,26 @@ Cut =
 
 -- Demand 3, restored: the call that a D-CALL RESTORE then restores is the call that was cut, however many breaks came between
 
+-- what the call at the cut and the restored one have in common, for a D-CALL RESTORE with i, r and o
+abbrev pub Restoration : Call → Call → (i r o : ℕ) → Type 0
+Restoration c d i r o =
+    (i ≡ c .id)
+    × (d .id ≡ c .id)
+    × (d .address ≡ c .address)
+    × (d .mode ≡ c .mode)
+    × (d .slots ≡ c .slots)
+    × (d .code ≡ cond (eqb r 1) (cond (eqb o 16) (c .code) o) (c .code))
+    × (runs d T310 ≡ cond (eqb r 1) (not (eqb (d .code) 0)) (runs c T310))
+    × (d .state ≡ State.CallActive)
+    × (d .path ≡ Path.Up)
+
 abbrev pub Restored : Type 0
 Restored =
     (ts us : List Turn) (t v : Turn) (i g r o : ℕ) →
     takenBy (run freshCall ts) t ≡ some Break →
     quiet (run freshCall ts .id) (next (run freshCall ts) t) us ≡ true →
     takenBy (run freshCall (ts ++ t ∷ us)) v ≡ some (DCallRestore i g r o) →
-    (i ≡ run freshCall ts .id)
-    × (run freshCall (ts ++ t ∷ us ++ v ∷ []) .id ≡ run freshCall ts .id)
-    × (run freshCall (ts ++ t ∷ us ++ v ∷ []) .address ≡ run freshCall ts .address)
-    × (run freshCall (ts ++ t ∷ us ++ v ∷ []) .mode ≡ run freshCall ts .mode)
-    × (run freshCall (ts ++ t ∷ us ++ v ∷ []) .slots ≡ run freshCall ts .slots)
-    × (run freshCall (ts ++ t ∷ us ++ v ∷ []) .code ≡ cond (eqb r 1) (cond (eqb o 16) (run freshCall ts .code) o) (run freshCall ts .code))
-    × (runs (run freshCall (ts ++ t ∷ us ++ v ∷ [])) T310 ≡ cond (eqb r 1) (not (eqb (run freshCall (ts ++ t ∷ us ++ v ∷ []) .code) 0)) (runs (run freshCall ts) T310))
-    × (run freshCall (ts ++ t ∷ us ++ v ∷ []) .state ≡ State.CallActive)
-    × (run freshCall (ts ++ t ∷ us ++ v ∷ []) .path ≡ Path.Up)
+    Restoration (run freshCall ts) (run freshCall (ts ++ t ∷ us ++ v ∷ [])) i r o
 
 -- Demand 3, ended: a turn that writes RELEASE confirm, or RELEASE indication 3 or 4, leaves the fresh record, and the U-plane off
 
@@ -338,7 +343,7 @@ Identified = (ts : List Turn) → isIdle (run freshCall ts) ≡ false → run fr
 abbrev pub Transmits : Type 0
 Transmits =
     (ts : List Turn) →
-    (eqb (told ts) 1 || eqb (told ts) 3) ≡ true →
+    transmits (told ts) ≡ true →
     (run freshCall ts .state ≡ State.CallActive)
     × (run freshCall ts .path ≡ Path.Up)
     × (run freshCall ts .id ≡ idByHistory (takenIn freshCall ts))
@@ -470,4 +475,4 @@ NoLimitNoExpiry =
 abbrev pub NoInfoOverSpeech : Type 0
 NoInfoOverSpeech =
     (ts : List Turn) (t : Turn) (i r o d s : ℕ) →
-    (eqb (told ts) 1 || eqb (told ts) 3) ≡ true → takenBy (run freshCall ts) t ≡ some (DInfo i r o d s) → ⊥
+    transmits (told ts) ≡ true → takenBy (run freshCall ts) t ≡ some (DInfo i r o d s) → ⊥

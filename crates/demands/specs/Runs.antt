@@ -7,8 +7,9 @@ use lib.Dec.{eqb}
 use Rattle.records.specs.declared.events.Event.{Event}
 use Rattle.records.specs.declared.messages.Message.{Message}
 use Rattle.records.specs.declared.messages.Message.the-variants.{USetup, UConnect, UDisconnect, URelease, UInfo, UTxDemand, UTxCeased, UCallRestore, Stop, Start, Configure, Cancel, Place, ChannelAnswer, SetupIndication, SetupConfirm, Proceed, Alert, Complete, ReleaseIndication, ReleaseConfirm, TxIndication, ModifyIndication}
-use Rattle.records.specs.Tables.{Read, taken, refused, read}
+use Rattle.records.specs.Tables.{Read, taken, refused, read, flat}
 use Rattle.records.specs.Events.{events}
+use Rattle.records.specs.Messages.{messages}
 use Rattle.callcontrol.specs.declared.call.Call.{Call}
 use Rattle.callcontrol.specs.Call.{freshCall}
 use Rattle.callcontrol.specs.Rows.{rowFor}
@@ -134,78 +135,17 @@ every? p (m ∷ ms) = p m && every? p ms
 unfoldable pub ends : Call → Turn → Bool
 ends c t = some? endsCall (writtenBy c t)
 
+-- a message of a kind, by the kind's number
+unfoldable pub ofKind : ℕ → Message → Bool
+ofKind n m = eqb (flat messages m .kind) n
+
 -- the two PDUs that end a call
-unfoldable pub isUDisconnect : Message → Bool
-isUDisconnect (USetup a d q s) = false
-isUDisconnect (UConnect i) = false
-isUDisconnect (UDisconnect i c) = true
-isUDisconnect (URelease i) = false
-isUDisconnect (UInfo i d) = false
-isUDisconnect (UTxDemand i) = false
-isUDisconnect (UTxCeased i) = false
-isUDisconnect (UCallRestore i a q) = false
-isUDisconnect (Stop n) = false
-isUDisconnect (Start n o) = false
-isUDisconnect (Configure plane) = false
-isUDisconnect Cancel = false
-isUDisconnect (Place at) = false
-isUDisconnect (ChannelAnswer n v) = false
-isUDisconnect (SetupIndication i a d) = false
-isUDisconnect (SetupConfirm i g) = false
-isUDisconnect Proceed = false
-isUDisconnect Alert = false
-isUDisconnect (Complete g) = false
-isUDisconnect (ReleaseIndication c) = false
-isUDisconnect ReleaseConfirm = false
-isUDisconnect (TxIndication x) = false
-isUDisconnect (ModifyIndication d s) = false
+abbrev pub isUDisconnect : Message → Bool
+isUDisconnect = ofKind 0x0503
 
-unfoldable pub isURelease : Message → Bool
-isURelease (USetup a d q s) = false
-isURelease (UConnect i) = false
-isURelease (UDisconnect i c) = false
-isURelease (URelease i) = true
-isURelease (UInfo i d) = false
-isURelease (UTxDemand i) = false
-isURelease (UTxCeased i) = false
-isURelease (UCallRestore i a q) = false
-isURelease (Stop n) = false
-isURelease (Start n o) = false
-isURelease (Configure plane) = false
-isURelease Cancel = false
-isURelease (Place at) = false
-isURelease (ChannelAnswer n v) = false
-isURelease (SetupIndication i a d) = false
-isURelease (SetupConfirm i g) = false
-isURelease Proceed = false
-isURelease Alert = false
-isURelease (Complete g) = false
-isURelease (ReleaseIndication c) = false
-isURelease ReleaseConfirm = false
-isURelease (TxIndication x) = false
-isURelease (ModifyIndication d s) = false
+abbrev pub isURelease : Message → Bool
+isURelease = ofKind 0x0504
 
-unfoldable pub isUInfo : Message → Bool
-isUInfo (USetup a d q s) = false
-isUInfo (UConnect i) = false
-isUInfo (UDisconnect i c) = false
-isUInfo (URelease i) = false
-isUInfo (UInfo i d) = true
-isUInfo (UTxDemand i) = false
-isUInfo (UTxCeased i) = false
-isUInfo (UCallRestore i a q) = false
-isUInfo (Stop n) = false
-isUInfo (Start n o) = false
-isUInfo (Configure plane) = false
-isUInfo Cancel = false
-isUInfo (Place at) = false
-isUInfo (ChannelAnswer n v) = false
-isUInfo (SetupIndication i a d) = false
-isUInfo (SetupConfirm i g) = false
-isUInfo Proceed = false
-isUInfo Alert = false
-isUInfo (Complete g) = false
-isUInfo (ReleaseIndication c) = false
-isUInfo ReleaseConfirm = false
-isUInfo (TxIndication x) = false
-isUInfo (ModifyIndication d s) = false
+-- the PDU that no step writes any more
+abbrev pub isUInfo : Message → Bool
+isUInfo = ofKind 0x0505

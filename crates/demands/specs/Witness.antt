@@ -151,7 +151,7 @@ unlimited =
     ∷ line (6 ∷ 0 ∷ 1 ∷ 4 ∷ 54 ∷ 1 ∷ []) 6 3 0 3 false
     ∷ []
 
--- two records are the same, by all their places
+-- two records are the same, by all their fields
 unfoldable pub flags : List Bool → List ℕ
 flags [] = []
 flags (b ∷ bs) = cond b 1 0 ∷ flags bs

@@ -1,5 +1,5 @@
 -- An event's numbers decide what the event decides.
-use Prim.Native.Nat.{ℕ, _<_}
+use Prim.Native.Nat.{ℕ, zero, suc, _<_}
 use mathlib.Core.Path.{_≡_, refl, sym, _∙_, ap, subst}
 use mathlib.Core.Bool.{Bool, true, false, cond, true≢false}
 use mathlib.Core.List.{List}
@@ -59,16 +59,19 @@ other-is c (Event.Expiry n) = expiries (λ f. namesOther (f .kind) (f .id) (c .i
 
 over-is : (c : Call) (e : Event) → overFlat (flatOf c e .kind) (c .plane) ≡ overTransmission c e
 unfolding flatOf overFlat
-over-is c (Event.SetupRequest a d q s) = refl
+over-is c (Event.SetupRequest a d q zero) = refl
+over-is c (Event.SetupRequest a d q (suc s)) = refl
 over-is c Event.SetupResponse = refl
 over-is c Event.ReleaseRequest = refl
 over-is c (Event.TxRequest k) = refl
 over-is c (Event.DCallProceeding i) = refl
 over-is c (Event.DAlert i) = refl
-over-is c (Event.DConnect i g d o s) = refl
+over-is c (Event.DConnect i g d o zero) = refl
+over-is c (Event.DConnect i g d o (suc s)) = refl
 over-is c (Event.DConnectAcknowledge i g o) = refl
 over-is c (Event.DSetup i a d) = refl
-over-is c (Event.DInfo i r o d s) = refl
+over-is c (Event.DInfo i r o d zero) = refl
+over-is c (Event.DInfo i r o d (suc s)) = refl
 over-is c (Event.DTxGranted i g) = refl
 over-is c (Event.DTxCeased i) = refl
 over-is c (Event.DTxInterrupt i g) = refl

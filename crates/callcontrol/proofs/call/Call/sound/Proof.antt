@@ -17,4 +17,4 @@ sound-spec =
     (λ c κs. search needs)
     (λ c. rw (← c .before .before .before .before .before .in-range .ensures, not-false (c .before .before .before .before .before .in-range .result) (c .before .before .before .before .if1 .left), ← c .before .before .before .idle-is-fresh .ensures, not-false (c .before .before .before .idle-is-fresh .result) (c .before .before .if2 .left), ← c .before .timers-agree .ensures, not-true (c .before .timers-agree .result) (c .if3 .taken)))
     (λ c κs. search needs)
-    (λ c. rw (← c .before .before .before .before .before .before .in-range .ensures, not-false (c .before .before .before .before .before .before .in-range .result) (c .before .before .before .before .before .if1 .left), ← c .before .before .before .before .idle-is-fresh .ensures, not-false (c .before .before .before .before .idle-is-fresh .result) (c .before .before .before .if2 .left), ← c .before .before .timers-agree .ensures, not-false (c .before .before .timers-agree .result) (c .before .if3 .left)) (c .places-agree .ensures)))
+    (λ c. rw (← c .before .before .before .before .before .before .in-range .ensures, not-false (c .before .before .before .before .before .before .in-range .result) (c .before .before .before .before .before .if1 .left), ← c .before .before .before .before .idle-is-fresh .ensures, not-false (c .before .before .before .before .idle-is-fresh .result) (c .before .before .before .if2 .left), ← c .before .before .timers-agree .ensures, not-false (c .before .before .timers-agree .result) (c .before .if3 .left)) (c .state-agrees .ensures)))

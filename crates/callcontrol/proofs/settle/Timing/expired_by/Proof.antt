@@ -1,4 +1,4 @@
--- The seven timers by their places.
+-- The seven timers in the order of their numbers.
 use borrow.Author.Needs.{needs}
 use borrow.Author.Tests.{ne-eqb}
 use Rattle.callcontrol.specs.Settle.{expiredBy}

@@ -1,12 +1,12 @@
 -- The definition is what the code tests.
 use borrow.Author.Needs.{needs}
-use Rattle.callcontrol.specs.Call.{placesAgree}
-use Rattle.callcontrol.proofs.call.Call.places_agree.Statement.{statement}
-use Rattle.callcontrol.proofs.call.Call.places_agree.Tie as tie
+use Rattle.callcontrol.specs.Call.{stateAgrees}
+use Rattle.callcontrol.proofs.call.Call.state_agrees.Statement.{statement}
+use Rattle.callcontrol.proofs.call.Call.state_agrees.Tie as tie
 
-pub places-agree-spec : {M : Type 1} → statement M
-unfolding placesAgree
-places-agree-spec =
+pub state-agrees-spec : {M : Type 1} → statement M
+unfolding stateAgrees
+state-agrees-spec =
     tie.close
     (tie.spec
     (λ c κs. search needs)
