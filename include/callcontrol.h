@@ -405,7 +405,7 @@ enum callcontrol_bank_field {
     CALLCONTROL_BANK_AT_RUNNING = 32   /* seven u8, each 0 or 1 */
 };
 
-/* Places in a table of lengths, in milliseconds; T310's follow one another by code, 0 to 15. */
+/* Entries of a table of lengths, in milliseconds; T310's follow one another by code, 0 to 15. */
 enum callcontrol_length {
     CALLCONTROL_LENGTH_OF_T301 = 0,
     CALLCONTROL_LENGTH_OF_T302 = 1,

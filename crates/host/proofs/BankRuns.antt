@@ -13,7 +13,7 @@ use Rattle.records.specs.Bytes.{bytes}
 use Rattle.timers.specs.declared.bank.Bank.{Bank}
 use Rattle.timers.specs.Wrap.{shown}
 use Rattle.timers.specs.Due.{staying}
-use Rattle.timers.specs.Bank.{Outcome, newBank, placeOf, without, with, lengthIn, advancedTo}
+use Rattle.timers.specs.Bank.{Outcome, newBank, indexOf, without, with, lengthIn, advancedTo}
 use Rattle.timers.specs.Time.{Call, stop, start, reading, outcome, isTaken, Kept, made, next, run}
 use Rattle.timers.proofs.Tests.{decide, All}
 use Rattle.timers.proofs.Calls.{unchanged, stop-taken, start-taken, reading-taken}
@@ -63,7 +63,7 @@ taken-fits b (start table n code) f t =
     rw (start-taken b table n code t .2)
     (record {
       last = f .last;
-      deadlines = set-fits (b .deadlines) (placeOf n) ((b .last + lengthIn table n code) % 4294967296) (omega arith) (f .deadlines);
+      deadlines = set-fits (b .deadlines) (indexOf n) ((b .last + lengthIn table n code) % 4294967296) (omega arith) (f .deadlines);
       sevens = (rw length-set (f .sevens .0), rw length-set (f .sevens .1));
     })
 taken-fits b (reading time list) f t =

@@ -10,7 +10,7 @@ use lib.ListN.{length, getD}
 use lib.Seq.{sets}
 use Rattle.pieces.specs.declared.reader.Reader.{Reader}
 use Rattle.pieces.specs.declared.reader.Found.{Found}
-use Rattle.pieces.specs.Next.{Outcome, answerNumber, placeNumber, asOutcome, nextOf}
+use Rattle.pieces.specs.Next.{Outcome, answerNumber, whereNumber, asOutcome, nextOf}
 use Rattle.pieces.specs.Claims.{Small}
 use Rattle.pieces.proofs.Claims.{small-numbers}
 use Rattle.host.specs.Packing.{flag}
@@ -96,7 +96,7 @@ module _
   small = subst (λ (o : Outcome). Small o) (sym of-the-bytes) (small-numbers (readerOf s) carry piece (a-reader s tested so .carried))
 
   pub hands-on : {w : ℕ} {after : List ℕ} → after ≡ sets s 0 (readerBytes (f .reader))
-      → w ≡ foundWord (answerNumber (f .answer)) (placeNumber (f .place)) (f .size) (f .used)
+      → w ≡ foundWord (answerNumber (f .answer)) (whereNumber (f .lies)) (f .size) (f .used)
       → _≡_ {A = LeftByPiece} (record { result = w; reader = after; carry = then }) (hostNext s carry piece)
   unfolding hostNext
   hands-on {w} {after} packs word =

@@ -24,7 +24,7 @@ use Rattle.host.proofs.SerialLine.{is-two, stored, reader-is-unpacked, 
 -- ---- each number of a result
 
 -- where a record may be
-handed-where : (b : Bool) (carried : ℕ) (carry piece : List ℕ) (n : ℕ) → eqb carried 0 ≡ b → handedOn carried carry piece n .place ≤ 2
+handed-where : (b : Bool) (carried : ℕ) (carry piece : List ℕ) (n : ℕ) → eqb carried 0 ≡ b → handedOn carried carry piece n .lies ≤ 2
 unfolding handedOn
 handed-where true carried carry piece n e = rw e (omega arith)
 handed-where false carried carry piece n e = rw e (omega arith)
@@ -32,7 +32,7 @@ handed-where false carried carry piece n e = rw e (omega arith)
 where-by : (b₁ b₂ : Bool) (f : Front) (r : Reader) (carry piece : List ℕ)
     → cond b₁ (refusal 22 r carry)
     (cond b₂ (refusal 21 r carry) (byFront f (kept (r .carried) carry piece) (handedOn (r .carried) carry piece) (refusal 20 stoppedReader carry)))
-    .place
+    .lies
     ≤ 2
 unfolding kept
 where-by true b₂ f r carry piece = omega arith
@@ -41,7 +41,7 @@ where-by false false Unended r carry piece = omega arith
 where-by false false (Whole n) r carry piece = handed-where (eqb (r .carried) 0) (r .carried) carry piece n refl
 where-by false false Impossible r carry piece = omega arith
 
-where-small : (r : Reader) (carry piece : List ℕ) → nextOf r carry piece .place ≤ 2
+where-small : (r : Reader) (carry piece : List ℕ) → nextOf r carry piece .lies ≤ 2
 unfolding nextOf found
 where-small r carry piece =
     where-by (ltb (length carry) 64) (r .stopped || ltb 63 (r .carried)) (begun (r .carried) (front (take (r .carried) carry ++ piece))) r carry piece
@@ -63,7 +63,7 @@ module _ (a w n u : ℕ) (hw : w ≤ 2) (hn : n ≤ 64) (hu : u ≤ 64) where
 
 abbrev packed-left : Outcome → LeftByPiece
 packed-left o =
-    record { result = foundWord (o .answer) (o .place) (o .size) (o .used); reader = readerBytes (o .reader); carry = o .carry }
+    record { result = foundWord (o .answer) (o .lies) (o .size) (o .used); reader = readerBytes (o .reader); carry = o .carry }
 
 next-packed : (r : Reader) (carry piece : List ℕ) → r .carried ≤ 63 → hostNext (readerBytes r) carry piece ≡ packed-left (nextOf r carry piece)
 unfolding hostNext
@@ -74,11 +74,11 @@ next-packed r carry piece h =
     ∙ ap (λ (x : Reader). leftBy (readerBytes r) (nextOf x carry piece)) (u .1)
 
 -- what the host reads off a result is what was found
-module _ (o : Outcome) (small : Small o) (place : o .place ≤ 2) (piece : List ℕ) (rest : Fed) where
-  then-by : (b : Bool) → eqb (o .place) 0 ≡ b
+module _ (o : Outcome) (small : Small o) (lies : o .lies ≤ 2) (piece : List ℕ) (rest : Fed) where
+  then-by : (b : Bool) → eqb (o .lies) 0 ≡ b
       → cond b (record { records = []; answers = o .answer ∷ []; reader = readerBytes (o .reader); carry = o .carry })
       (record {
-        records = recordIn (o .place) (o .size) (o .carry) piece ∷ rest .records;
+        records = recordIn (o .lies) (o .size) (o .carry) piece ∷ rest .records;
         answers = o .answer ∷ rest .answers;
         reader = readerBytes (rest .reader);
         carry = rest .carry;
@@ -90,11 +90,11 @@ module _ (o : Outcome) (small : Small o) (place : o .place ≤ 2) (piece : List 
   then-packed : foundThen (packed-left o) piece (packedFed rest) ≡ packedFed (runs.foundThen o piece rest)
   then-packed =
       rw (
-        answer-off (o .answer) (o .place) (o .size) (o .used) place (small .size) (small .used),
-        where-off (o .answer) (o .place) (o .size) (o .used) place (small .size) (small .used),
-        size-off (o .answer) (o .place) (o .size) (o .used) place (small .size) (small .used),
+        answer-off (o .answer) (o .lies) (o .size) (o .used) lies (small .size) (small .used),
+        where-off (o .answer) (o .lies) (o .size) (o .used) lies (small .size) (small .used),
+        size-off (o .answer) (o .lies) (o .size) (o .used) lies (small .size) (small .used),
       )
-      (then-by (eqb (o .place) 0) refl)
+      (then-by (eqb (o .lies) 0) refl)
 
 -- ---- a piece, and a run
 
@@ -104,12 +104,12 @@ fed-packed zero r carry piece h = refl
 fed-packed (suc k) r carry piece h =
     let o = nextOf r carry piece in
     let small = small-numbers r carry piece h in
-    let place = where-small r carry piece in
-    let used = used-off (o .answer) (o .place) (o .size) (o .used) place (small .size) (small .used) in
+    let lies = where-small r carry piece in
+    let used = used-off (o .answer) (o .lies) (o .size) (o .used) lies (small .size) (small .used) in
     ap (λ (l : LeftByPiece). foundThen l piece (readWithin k (l .reader) (l .carry) (drop (usedOf (l .result)) piece))) (next-packed r carry piece h)
     ∙ ap (λ (n : ℕ). foundThen (packed-left o) piece (readWithin k (readerBytes (o .reader)) (o .carry) (drop n piece))) used
     ∙ ap (foundThen (packed-left o) piece) (fed-packed k (o .reader) (o .carry) (drop (o .used) piece) (small .carried))
-    ∙ then-packed o small place piece (feedWithin k (o .reader) (o .carry) (drop (o .used) piece))
+    ∙ then-packed o small lies piece (feedWithin k (o .reader) (o .carry) (drop (o .used) piece))
 
 fed-few : (k : ℕ) (r : Reader) (carry piece : List ℕ) → r .carried ≤ 63 → feedWithin k r carry piece .reader .carried ≤ 63
 unfolding feedWithin
@@ -117,9 +117,9 @@ fed-few zero r carry piece h = h
 fed-few (suc k) r carry piece h =
     let o = nextOf r carry piece in
     let small = small-numbers r carry piece h in
-    by (eqb (o .place) 0) o (feedWithin k (o .reader) (o .carry) (drop (o .used) piece)) refl (small .carried) (fed-few k (o .reader) (o .carry) (drop (o .used) piece) (small .carried))
+    by (eqb (o .lies) 0) o (feedWithin k (o .reader) (o .carry) (drop (o .used) piece)) refl (small .carried) (fed-few k (o .reader) (o .carry) (drop (o .used) piece) (small .carried))
   where
-    by : (b : Bool) (o : Outcome) (rest : Fed) → eqb (o .place) 0 ≡ b → o .reader .carried ≤ 63 → rest .reader .carried ≤ 63
+    by : (b : Bool) (o : Outcome) (rest : Fed) → eqb (o .lies) 0 ≡ b → o .reader .carried ≤ 63 → rest .reader .carried ≤ 63
         → runs.foundThen o piece rest .reader .carried ≤ 63
     by true o rest e h₁ h₂ = rw e h₁
     by false o rest e h₁ h₂ = rw e h₂

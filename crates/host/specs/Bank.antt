@@ -11,6 +11,7 @@ use Rattle.records.specs.Bytes.{number, bytes}
 use Rattle.timers.specs.declared.bank.Bank.{Bank}
 use Rattle.timers.specs.Bank.{Outcome, newBank}
 use Rattle.host.specs.Packing.{flag}
+use Rattle.host.specs.Entries.{ANSWER}
 
 unfoldable pub flags : List Bool → List ℕ
 flags running =
@@ -48,7 +49,7 @@ unfoldable pub unpackedBank : List ℕ → Option Bank
 unpackedBank s = cond (isBank s) (some (heldBank s)) none
 
 abbrev pub bankWord : ℕ → ℕ → ℕ
-bankWord answer count = answer * 16777216 + count
+bankWord answer count = answer * ANSWER + count
 
 -- what an entry leaves: the result, the bank's bytes and the lent list, which is none but for a reading
 pub record BankLeft : Type 0 where

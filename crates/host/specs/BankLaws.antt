@@ -9,7 +9,7 @@ use Rattle.timers.specs.declared.bank.Bank.{Bank}
 use Rattle.timers.specs.Bank.{Outcome}
 use Rattle.host.specs.Bank.{packedBank, isBank, heldBank, unpackedBank, BankLeft, bankMade, onBank}
 
--- the numbers fit their places, and there are seven timers
+-- the numbers fit their bytes, and there are seven timers
 pub record FittingBank (b : Bank) : Type 0 where
   pub last : b .last < 2 ^ 32
   pub deadlines : (i : ℕ) → getD (b .deadlines) i 0 < 2 ^ 32

@@ -13,6 +13,7 @@ use Rattle.channel.specs.declared.rooms.Room.{Room}
 use Rattle.channel.specs.declared.questions.Answered.{Answered}
 use Rattle.channel.specs.Rooms.{waitNumber, freshRooms, roomAt}
 use Rattle.channel.specs.Questions.{Outcome, channelNumber}
+use Rattle.host.specs.Entries.{ANSWER}
 
 unfoldable pub packedRoom : Room → List ℕ
 packedRoom r = waitNumber (r .wait) ∷ (bytes 2 (r .number) ++ bytes 2 (r .call))
@@ -38,7 +39,7 @@ unfoldable pub unpackedRooms : List ℕ → Option (List Room)
 unpackedRooms s = cond (isRooms s) (some (heldRooms s)) none
 
 abbrev pub roomsWord : ℕ → ℕ → ℕ
-roomsWord answer count = answer * 16777216 + count
+roomsWord answer count = answer * ANSWER + count
 
 -- what an entry leaves: the result, the rooms' bytes and the lent buffer, which is none for fresh rooms
 pub record RoomsLeft : Type 0 where

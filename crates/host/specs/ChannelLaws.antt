@@ -14,7 +14,7 @@ use Rattle.channel.specs.Rooms.{freshRooms, every?}
 use Rattle.channel.specs.Questions.{Outcome, pduOf}
 use Rattle.channel.specs.Runs.{Turn, lentBy, outcome, run, AllHanded}
 use Rattle.host.specs.Packing.{unpacked}
-use Rattle.host.specs.Entries.{hostStep}
+use Rattle.host.specs.Entries.{ANSWER, hostStep}
 use Rattle.host.specs.Channel.{packedRooms, isRooms, heldRooms, unpackedRooms, RoomsLeft, roomsFreshened, roomsLeftBy, onRooms}
 
 -- number and call take two bytes each, and there are four rooms
@@ -61,7 +61,7 @@ CallIsTheTurn =
 abbrev pub ByTheResult : Type 0
 ByTheResult =
     (rooms : List Room) (n c : ℕ) (b s pdu out : List ℕ) (call : Call) → unpacked s ≡ some call →
-    pduOf rooms n c (hostStep s pdu out .result / 16777216) b ≡ pduOf rooms n c (step.stepOf call pdu out .answer) b
+    pduOf rooms n c (hostStep s pdu out .result / ANSWER) b ≡ pduOf rooms n c (step.stepOf call pdu out .answer) b
 
 -- two results that an entry's promise allows are equal: the returned number, the rooms' bytes and the lent buffer
 

@@ -9,7 +9,7 @@ use Rattle.demands.specs.Runs.{Turn, outcome, run, takenIn, writtenBy}
 use Rattle.demands.specs.History.{planeByHistory}
 use Rattle.demands.specs.Demands.{Reads}
 use Rattle.host.specs.Packing.{packed}
-use Rattle.host.specs.Entries.{Left, stepped, freshened, hostStep}
+use Rattle.host.specs.Entries.{PLACE, Left, stepped, freshened, hostStep}
 
 -- the record's bytes after some turns
 unfoldable pub hostRun : List ℕ → List Turn → List ℕ
@@ -35,7 +35,7 @@ abbrev pub TurnReadsBack : Type 0
 TurnReadsBack =
     (s : List ℕ) (ts : List Turn) (t : Turn) →
     length s ≡ 22 →
-    Reads (take (hostStep (after s ts) (t .event) (t .buffer) .result % 65536) (hostStep (after s ts) (t .event) (t .buffer) .out))
+    Reads (take (hostStep (after s ts) (t .event) (t .buffer) .result % PLACE) (hostStep (after s ts) (t .event) (t .buffer) .out))
     (writtenBy (run freshCall ts) t)
 
 -- the plane in the record, its byte 11, is what the history rule reads from the taken events alone

@@ -9,6 +9,7 @@ use lib.Seq.{sets}
 use Rattle.pieces.specs.declared.reader.Reader.{Reader}
 use Rattle.pieces.specs.Next.{Outcome, freshReader, nextOf}
 use Rattle.host.specs.Packing.{flag}
+use Rattle.host.specs.Entries.{ANSWER, PLACE}
 
 abbrev pub readerBytes : Reader → List ℕ
 readerBytes r = r .carried ∷ flag (r .stopped) ∷ []
@@ -21,9 +22,9 @@ isReader s = eqb (length s) 2 && leb (getD s 0 0) 63 && leb (getD s 1 0) 1
 abbrev pub readerOf : List ℕ → Reader
 readerOf s = record { carried = getD s 0 0; stopped = eqb (getD s 1 0) 1 }
 
--- answer * 2^24 + place * 2^16 + size * 2^8 + bytes used
+-- answer * 2^24 + where * 2^16 + size * 2^8 + bytes used
 abbrev pub foundWord : ℕ → ℕ → ℕ → ℕ → ℕ
-foundWord answer place size used = answer * 16777216 + place * 65536 + size * 256 + used
+foundWord answer lies size used = answer * ANSWER + lies * PLACE + size * 256 + used
 
 -- the fresh reader into 2 bytes, which are counted; 1 for another length
 unfoldable pub readerFreshened : List ℕ → ℕ × List ℕ
@@ -37,7 +38,7 @@ pub record LeftByPiece : Type 0 where
 
 abbrev pub leftBy : List ℕ → Outcome → LeftByPiece
 leftBy s o =
-    record { result = foundWord (o .answer) (o .place) (o .size) (o .used); reader = sets s 0 (readerBytes (o .reader)); carry = o .carry }
+    record { result = foundWord (o .answer) (o .lies) (o .size) (o .used); reader = sets s 0 (readerBytes (o .reader)); carry = o .carry }
 
 -- bytes that are no reader are answer 1, before all others
 unfoldable pub hostNext : List ℕ → List ℕ → List ℕ → LeftByPiece

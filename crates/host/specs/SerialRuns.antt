@@ -10,14 +10,15 @@ use lib.ListN.{length, getD, take, drop, replicate}
 use Rattle.pieces.specs.Stream.{Held, holds}
 use Rattle.pieces.specs.Next.{freshReader, nextOf, recordIn}
 use Rattle.pieces.specs.Runs.{Fed, run, joined}
+use Rattle.host.specs.Entries.{ANSWER, PLACE}
 use Rattle.host.specs.SerialLine.{readerBytes, isReader, LeftByPiece, leftBy, readerFreshened, hostNext}
 
 -- what a host reads off a result
 abbrev pub answerOf : ℕ → ℕ
-answerOf result = result / 16777216
+answerOf result = result / ANSWER
 
 abbrev pub whereOf : ℕ → ℕ
-whereOf result = result / 65536 % 256
+whereOf result = result / PLACE % 256
 
 abbrev pub sizeOf : ℕ → ℕ
 sizeOf result = result / 256 % 256

@@ -7,6 +7,7 @@ ghost use lib.Seq.{sets};
 ghost use Rattle.records.specs.Bytes.{bytes};
 ghost use Rattle.timers.specs.Bank.{stopped, started, advanced};
 ghost use Rattle.host.specs.Bank.{flags, packedBank, isBank, heldBank, BankLeft, bankMade, onBank};
+use crate::packed::ANSWER;
 use crate::packed::flag;
 use crate::packed::long_at;
 use timers::bank::Bank;
@@ -118,7 +119,7 @@ pub extern "C" fn callcontrol_bank_new(bank: &mut [u8], reading: u32) -> u32
     ensures { λ r. ⌜ _≡_ {A = BankLeft} (record { result = r; bank = now (bank .exit); list = [] }) (bankMade (now (bank .entry)) reading) ⌝ }
 {
     if bank.len() != 39 {
-        return 16777216;
+        return ANSWER;
     }
     pack_bank(Bank::new(reading), bank);
     39
@@ -130,13 +131,13 @@ pub extern "C" fn callcontrol_bank_stop(bank: &mut [u8], timer: u16) -> u32
     ensures { λ r. ⌜ _≡_ {A = BankLeft} (record { result = r; bank = now (bank .exit); list = [] }) (onBank (now (bank .entry)) [] (λ b. stopped b timer)) ⌝ }
 {
     if !is_bank(bank) {
-        return 16777216;
+        return ANSWER;
     }
     let ordered = held_bank(bank).stop(timer);
     let answer = ordered.answer;
     let next = ordered.bank;
     let number = answer_number(answer);
-    let result = number * 16777216;
+    let result = number * ANSWER;
     if number == 0 {
         pack_bank(next, bank);
     }
@@ -154,13 +155,13 @@ pub extern "C" fn callcontrol_bank_start(
     ensures { λ r. ⌜ _≡_ {A = BankLeft} (record { result = r; bank = now (bank .exit); list = [] }) (onBank (now (bank .entry)) [] (λ b. started b (now (table .entry)) timer code)) ⌝ }
 {
     if !is_bank(bank) {
-        return 16777216;
+        return ANSWER;
     }
     let ordered = held_bank(bank).start(table, timer, code);
     let answer = ordered.answer;
     let next = ordered.bank;
     let number = answer_number(answer);
-    let result = number * 16777216;
+    let result = number * ANSWER;
     if number == 0 {
         pack_bank(next, bank);
     }
@@ -173,13 +174,13 @@ pub extern "C" fn callcontrol_bank_advance(bank: &mut [u8], reading: u32, due: &
     ensures { λ r. ⌜ _≡_ {A = BankLeft} (record { result = r; bank = now (bank .exit); list = now (due .exit) }) (onBank (now (bank .entry)) (now (due .entry)) (λ b. advanced b reading (now (due .entry)))) ⌝ }
 {
     if !is_bank(bank) {
-        return 16777216;
+        return ANSWER;
     }
     let advanced = held_bank(bank).advance(reading, due);
     let answer = advanced.answer;
     let next = advanced.bank;
     let number = answer_number(answer);
-    let result = number * 16777216 + advanced.count as u32;
+    let result = number * ANSWER + advanced.count as u32;
     if number == 0 {
         pack_bank(next, bank);
     }

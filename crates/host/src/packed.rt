@@ -18,6 +18,11 @@ use callcontrol::call::T311;
 use callcontrol::call::path_number;
 use callcontrol::call::state_number;
 
+// A result is answer * ANSWER + place * PLACE + count, so that ANSWER alone is answer 1.
+pub const ANSWER: u32 = 16777216;
+
+pub const PLACE: u32 = 65536;
+
 fn state_is(n: u8) -> State
     ensures { λ r. ⌜ r ≡ stateIs n ⌝ }
 {

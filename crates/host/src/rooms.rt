@@ -5,7 +5,9 @@ ghost use Prim.Native.Nat.{ℕ, _+_, _≤_, _/_};
 ghost use lib.ListN.{length};
 ghost use lib.Seq.{sets};
 ghost use Rattle.channel.specs.Questions.{askOf, pduOf, decideOf, endedOf, askedBy};
+ghost use Rattle.host.specs.Entries.{ANSWER};
 ghost use Rattle.host.specs.Channel.{waitIs, packedRoom, packedRooms, isRooms, heldRoom, heldRooms, RoomsLeft, roomsFreshened, leaving, onRooms};
+use crate::packed::ANSWER;
 use crate::packed::word_at;
 use channel::questions::Answered;
 use channel::questions::ask;
@@ -106,7 +108,7 @@ fn leave(answered: Answered, s: &mut [u8]) -> u32
     let answer = answered.answer;
     let next = answered.rooms;
     let number = channel_number(answer) as u32;
-    let result = number * 16777216 + answered.count as u32;
+    let result = number * ANSWER + answered.count as u32;
     if number == 0 {
         pack_rooms(next, s);
     }
@@ -119,7 +121,7 @@ pub extern "C" fn callcontrol_channel_fresh(rooms: &mut [u8]) -> u32
     ensures { λ r. ⌜ _≡_ {A = RoomsLeft} (record { result = r; rooms = now (rooms .exit); out = [] }) (roomsFreshened (now (rooms .entry))) ⌝ }
 {
     if rooms.len() != 20 {
-        return 16777216;
+        return ANSWER;
     }
     pack_rooms(fresh_rooms(), rooms);
     20
@@ -137,7 +139,7 @@ pub extern "C" fn callcontrol_channel_ask(
     ensures { λ r. ⌜ _≡_ {A = RoomsLeft} (record { result = r; rooms = now (rooms .exit); out = now (out .exit) }) (onRooms (now (rooms .entry)) (now (out .entry)) (λ held. askOf held number call asked (now (out .entry)))) ⌝ }
 {
     if !is_rooms(rooms) {
-        return 16777216;
+        return ANSWER;
     }
     let answered = ask(held_rooms(rooms), number, call, asked, out);
     leave(answered, rooms)
@@ -145,9 +147,9 @@ pub extern "C" fn callcontrol_channel_ask(
 
 // What is asked of an individually addressed PDU, by what the step returned for it.
 fn asked_by(result: u32) -> u8
-    ensures { λ r. ⌜ r ≡ askedBy (result / 16777216) ⌝ }
+    ensures { λ r. ⌜ r ≡ askedBy (result / ANSWER) ⌝ }
 {
-    if result / 16777216 == 0 {
+    if result / ANSWER == 0 {
         return 0;
     }
     1
@@ -162,10 +164,10 @@ pub extern "C" fn callcontrol_channel_pdu(
     result: u32,
     out: &mut [u8],
 ) -> u32
-    ensures { λ r. ⌜ _≡_ {A = RoomsLeft} (record { result = r; rooms = now (rooms .exit); out = now (out .exit) }) (onRooms (now (rooms .entry)) (now (out .entry)) (λ held. pduOf held number call (result / 16777216) (now (out .entry)))) ⌝ }
+    ensures { λ r. ⌜ _≡_ {A = RoomsLeft} (record { result = r; rooms = now (rooms .exit); out = now (out .exit) }) (onRooms (now (rooms .entry)) (now (out .entry)) (λ held. pduOf held number call (result / ANSWER) (now (out .entry)))) ⌝ }
 {
     if !is_rooms(rooms) {
-        return 16777216;
+        return ANSWER;
     }
     let answered = ask(held_rooms(rooms), number, call, asked_by(result), out);
     leave(answered, rooms)
@@ -182,7 +184,7 @@ pub extern "C" fn callcontrol_channel_decide(
     ensures { λ r. ⌜ _≡_ {A = RoomsLeft} (record { result = r; rooms = now (rooms .exit); out = now (out .exit) }) (onRooms (now (rooms .entry)) (now (out .entry)) (λ held. decideOf held number decision (now (out .entry)))) ⌝ }
 {
     if !is_rooms(rooms) {
-        return 16777216;
+        return ANSWER;
     }
     let answered = decide(held_rooms(rooms), number, decision, out);
     leave(answered, rooms)
@@ -194,7 +196,7 @@ pub extern "C" fn callcontrol_channel_ended(rooms: &mut [u8], call: u16, out: &m
     ensures { λ r. ⌜ _≡_ {A = RoomsLeft} (record { result = r; rooms = now (rooms .exit); out = now (out .exit) }) (onRooms (now (rooms .entry)) (now (out .entry)) (λ held. endedOf held call (now (out .entry)))) ⌝ }
 {
     if !is_rooms(rooms) {
-        return 16777216;
+        return ANSWER;
     }
     let answered = ended(held_rooms(rooms), call, out);
     leave(answered, rooms)

@@ -4,14 +4,16 @@ ghost use mathlib.Core.List.{List};
 ghost use Prim.Native.Nat.{ℕ, _≤_};
 ghost use lib.ListN.{length};
 ghost use lib.Seq.{sets};
-ghost use Rattle.pieces.specs.Next.{answerNumber, placeNumber};
+ghost use Rattle.pieces.specs.Next.{answerNumber, whereNumber};
 ghost use Rattle.host.specs.SerialLine.{isReader, readerOf, readerBytes, foundWord, readerFreshened, LeftByPiece, hostNext};
+use crate::packed::ANSWER;
+use crate::packed::PLACE;
 use crate::packed::flag;
 use pieces::reader::Found;
 use pieces::reader::Reader;
 use pieces::reader::answer_number;
 use pieces::reader::next;
-use pieces::reader::place_number;
+use pieces::reader::where_number;
 
 // Whether some bytes are a reader.
 fn is_reader(s: &[u8]) -> bool
@@ -48,12 +50,12 @@ fn put_reader(reader: Reader, s: &mut [u8])
 
 fn found_word(found: Found) -> u32
     requires { ⌜ (found .size ≤ 64) × (found .used ≤ 64) ⌝ }
-    ensures { λ r. ⌜ r ≡ foundWord (answerNumber (found .answer)) (placeNumber (found .place)) (found .size) (found .used) ⌝ }
+    ensures { λ r. ⌜ r ≡ foundWord (answerNumber (found .answer)) (whereNumber (found .lies)) (found .size) (found .used) ⌝ }
 {
     let answer = found.answer;
-    let place = found.place;
-    answer_number(answer) * 16777216
-        + place_number(place) * 65536
+    let lies = found.lies;
+    answer_number(answer) * ANSWER
+        + where_number(lies) * PLACE
         + (found.size as u32) * 256
         + found.used as u32
 }
@@ -64,7 +66,7 @@ pub extern "C" fn callcontrol_pieces_fresh(reader: &mut [u8]) -> u32
     ensures { λ r. ⌜ _≡_ {A = ℕ × List ℕ} (r, now (reader .exit)) (readerFreshened (now (reader .entry))) ⌝ }
 {
     if reader.len() != 2 {
-        return 16777216;
+        return ANSWER;
     }
     put_reader(Reader::fresh(), reader);
     2
@@ -76,7 +78,7 @@ pub extern "C" fn callcontrol_pieces_next(reader: &mut [u8], carry: &mut [u8], p
     ensures { λ r. ⌜ _≡_ {A = LeftByPiece} (record { result = r; reader = now (reader .exit); carry = now (carry .exit) }) (hostNext (now (reader .entry)) (now (carry .entry)) (now (piece .entry))) ⌝ }
 {
     if !is_reader(reader) {
-        return 16777216;
+        return ANSWER;
     }
     let found = next(reader_of(reader), carry, piece);
     let then = found.reader;

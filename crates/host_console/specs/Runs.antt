@@ -14,6 +14,7 @@ use Rattle.console.specs.Console.{ConsoleOutcome}
 use Rattle.console.specs.Runs.{ConsoleTurn, consoleOutcome, consoleRun, framed}
 use Rattle.console.specs.Demands.{turnsAt}
 use Rattle.host.specs.Packing.{packed}
+use Rattle.host.specs.Entries.{ANSWER, PLACE}
 use Rattle.host_console.specs.Table.{recordAt, packedInto, TableLeft, consoleLeft, consoleFreshened, consoleHostStep}
 
 -- one call of the entry
@@ -53,16 +54,16 @@ abbrev pub TurnNumbers : Type 0
 TurnNumbers =
     (s : List ℕ) (ts : List ConsoleTurn) (t : ConsoleTurn) →
     length s ≡ 176 →
-    (tableTurn (tableAfter s ts) t .result / 16777216 ≡ answered ts t .answer)
-    × (tableTurn (tableAfter s ts) t .result / 65536 % 256 ≡ answered ts t .place)
-    × (tableTurn (tableAfter s ts) t .result % 65536 ≡ answered ts t .count)
+    (tableTurn (tableAfter s ts) t .result / ANSWER ≡ answered ts t .answer)
+    × (tableTurn (tableAfter s ts) t .result / PLACE % 256 ≡ answered ts t .place)
+    × (tableTurn (tableAfter s ts) t .result % PLACE ≡ answered ts t .count)
 
 -- the bytes that it counts are the places' messages, each place's behind its record 0605, and the others are as they were lent
 abbrev pub TurnMessages : Type 0
 TurnMessages =
     (s : List ℕ) (ts : List ConsoleTurn) (t : ConsoleTurn) →
     length s ≡ 176 →
-    (tableTurn (tableAfter s ts) t .result % 65536 ≡ length (bytesOf (framed (consoleRun freshTable ts) t)))
+    (tableTurn (tableAfter s ts) t .result % PLACE ≡ length (bytesOf (framed (consoleRun freshTable ts) t)))
     × (tableTurn (tableAfter s ts) t .out ≡ sets (t .buffer) 0 (bytesOf (framed (consoleRun freshTable ts) t)))
 
 -- and they read so, record after record
@@ -70,15 +71,15 @@ abbrev pub TableReadsBack : Type 0
 TableReadsBack =
     (s : List ℕ) (ts : List ConsoleTurn) (t : ConsoleTurn) →
     length s ≡ 176 →
-    Reads (take (tableTurn (tableAfter s ts) t .result % 65536) (tableTurn (tableAfter s ts) t .out)) (framed (consoleRun freshTable ts) t)
+    Reads (take (tableTurn (tableAfter s ts) t .result % PLACE) (tableTurn (tableAfter s ts) t .out)) (framed (consoleRun freshTable ts) t)
 
 -- 1 never comes back
 abbrev pub TableNeverUnsound : Type 0
 TableNeverUnsound =
-    (s : List ℕ) (ts : List ConsoleTurn) (t : ConsoleTurn) → length s ≡ 176 → tableTurn (tableAfter s ts) t .result / 16777216 ≡ 1 → ⊥
+    (s : List ℕ) (ts : List ConsoleTurn) (t : ConsoleTurn) → length s ≡ 176 → tableTurn (tableAfter s ts) t .result / ANSWER ≡ 1 → ⊥
 
 -- nor does 7 where 184 bytes are lent
 abbrev pub TableEnough : Type 0
 TableEnough =
     (s : List ℕ) (ts : List ConsoleTurn) (t : ConsoleTurn) →
-    length s ≡ 176 → 184 ≤ length (t .buffer) → tableTurn (tableAfter s ts) t .result / 16777216 ≡ 7 → ⊥
+    length s ≡ 176 → 184 ≤ length (t .buffer) → tableTurn (tableAfter s ts) t .result / ANSWER ≡ 7 → ⊥

@@ -18,6 +18,8 @@ use console::keys::key_of;
 use console::route::Led;
 use console::route::console_number;
 use console::route::lead;
+use host::packed::ANSWER;
+use host::packed::PLACE;
 use host::packed::held;
 use host::packed::is_record;
 use host::packed::pack;
@@ -90,7 +92,7 @@ pub extern "C" fn callcontrol_console_fresh(table: &mut [u8]) -> u32
     ensures { λ r. ⌜ _≡_ {A = ℕ × List ℕ} (r, now (table .exit)) (consoleFreshened (now (table .entry))) ⌝ }
 {
     if table.len() != 176 {
-        return 16777216;
+        return ANSWER;
     }
     pack_table([Call::fresh(); 8], table);
     176
@@ -108,7 +110,7 @@ fn to_place(table: &mut [u8], k: usize, event: Event, out: &mut [u8]) -> u32
     let answer = stepped.answer;
     let next = stepped.call;
     let own = answer_number(answer) as u32;
-    let result = own * 16777216 + (stepped.place as u32) * 65536 + stepped.count as u32;
+    let result = own * ANSWER + (stepped.place as u32) * PLACE + stepped.count as u32;
     if own == 0 {
         pack(next, &mut table[at..at + 22]);
     }
@@ -124,7 +126,7 @@ fn to_all(table: &mut [u8], event: Event, out: &mut [u8]) -> u32
     let answer = stepped.answer;
     let after = stepped.calls;
     let number = console_number(answer) as u32;
-    let result = number * 16777216 + (stepped.place as u32) * 65536 + stepped.count as u32;
+    let result = number * ANSWER + (stepped.place as u32) * PLACE + stepped.count as u32;
     if number == 0 {
         pack_table(after, table);
     }
@@ -143,13 +145,13 @@ pub extern "C" fn callcontrol_console_step(
 {
     let read = table_keys(table);
     if !read.ok {
-        return 16777216;
+        return ANSWER;
     }
     let keys = read.keys;
     match lead(keys, place, event) {
         Led::To { k, event: e } => to_place(table, k, e, out),
         Led::Everywhere { event: e } => to_all(table, e, out),
-        Led::Refused { answer, at } => (console_number(answer) as u32) * 16777216
-            + (at as u32) * 65536,
+        Led::Refused { answer, at } => (console_number(answer) as u32) * ANSWER
+            + (at as u32) * PLACE,
     }
 }

@@ -8,7 +8,7 @@ use Rattle.direct.specs.Call.{freshCall}
 use Rattle.direct.specs.Runs.{Turn, outcome, run, writtenBy}
 use Rattle.direct.specs.Demands.{Reads}
 use Rattle.host_direct.specs.Packing.{packed}
-use Rattle.host_direct.specs.Entries.{Left, stepped, freshened, hostStep}
+use Rattle.host_direct.specs.Entries.{PLACE, Left, stepped, freshened, hostStep}
 
 -- the record's bytes after some turns
 unfoldable pub hostRun : List ℕ → List Turn → List ℕ
@@ -34,5 +34,5 @@ abbrev pub TurnReadsBack : Type 0
 TurnReadsBack =
     (s : List ℕ) (ts : List Turn) (t : Turn) →
     length s ≡ 7 →
-    Reads (take (hostStep (after s ts) (t .event) (t .buffer) .result % 65536) (hostStep (after s ts) (t .event) (t .buffer) .out))
+    Reads (take (hostStep (after s ts) (t .event) (t .buffer) .result % PLACE) (hostStep (after s ts) (t .event) (t .buffer) .out))
     (writtenBy (run freshCall ts) t)

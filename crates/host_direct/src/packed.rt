@@ -7,6 +7,11 @@ use direct::call::Call;
 use direct::call::State;
 use direct::call::state_number;
 
+// A result is answer * ANSWER + place * PLACE + count, so that ANSWER alone is answer 1.
+pub const ANSWER: u32 = 16777216;
+
+pub const PLACE: u32 = 65536;
+
 // 2 is the last that a record has.
 fn state_is(n: u8) -> State
     ensures { λ r. ⌜ r ≡ stateIs n ⌝ }

@@ -10,7 +10,7 @@ use Rattle.demands.specs.Runs.{Turn, outcome, run, takenIn, writtenBy}
 use Rattle.demands.specs.History.{planeByHistory}
 use Rattle.demands.specs.Demands.{Reads}
 use Rattle.host.specs.Packing.{packed}
-use Rattle.host.specs.Entries.{Left, stepped, freshened, hostStep}
+use Rattle.host.specs.Entries.{PLACE, Left, stepped, freshened, hostStep}
 use Rattle.host.specs.Runs.{after}
 
 -- an archive's two entries: what each leaves, the result with every byte of the slices that it may write
@@ -57,7 +57,7 @@ TurnReadsBack =
     (x : Archive) → Promised x → (s : List ℕ) (ts : List Turn) (t : Turn) →
     length s ≡ 22 →
     Reads
-    (take (x .step (archiveAfter x s ts) (t .event) (t .buffer) .result % 65536) (x .step (archiveAfter x s ts) (t .event) (t .buffer) .out))
+    (take (x .step (archiveAfter x s ts) (t .event) (t .buffer) .result % PLACE) (x .step (archiveAfter x s ts) (t .event) (t .buffer) .out))
     (writtenBy (run freshCall ts) t)
 
 -- the plane in the record, its byte 11, is what the history rule reads from the taken events alone

@@ -6,6 +6,8 @@ ghost use Prim.Native.Nat.{ℕ};
 ghost use Rattle.host.specs.Entries.{Left, freshened, hostStep};
 use callcontrol::call::Call;
 use callcontrol::step::answer_number;
+use host::packed::ANSWER;
+use host::packed::PLACE;
 use host::packed::held;
 use host::packed::is_record;
 use host::packed::pack;
@@ -17,7 +19,7 @@ pub extern "C" fn callcontrol_fresh(call: &mut [u8]) -> u32
     ensures { λ r. ⌜ _≡_ {A = ℕ × List ℕ} (r, now (call .exit)) (freshened (now (call .entry))) ⌝ }
 {
     if call.len() != 22 {
-        return 16777216;
+        return ANSWER;
     }
     pack(Call::fresh(), call);
     22
@@ -29,13 +31,13 @@ pub extern "C" fn callcontrol_step(call: &mut [u8], event: &[u8], out: &mut [u8]
     ensures { λ r. ⌜ _≡_ {A = Left} (record { result = r; call = now (call .exit); out = now (out .exit) }) (hostStep (now (call .entry)) (now (event .entry)) (now (out .entry))) ⌝ }
 {
     if !is_record(call) {
-        return 16777216;
+        return ANSWER;
     }
     let stepped = small_step(held(call), event, out);
     let answer = stepped.answer;
     let next = stepped.call;
     let number = answer_number(answer) as u32;
-    let result = number * 16777216 + (stepped.place as u32) * 65536 + stepped.count as u32;
+    let result = number * ANSWER + (stepped.place as u32) * PLACE + stepped.count as u32;
     if number == 0 {
         pack(next, call);
     }

@@ -2,39 +2,39 @@
 ghost use mathlib.Core.Path.{_≡_};
 ghost use mathlib.Core.List.{List};
 ghost use Prim.Native.Nat.{ℕ};
-ghost use Rattle.host_test.specs.Record.{placeIs, recordCopied};
+ghost use Rattle.host_test.specs.Record.{whereIs, recordCopied};
 use pieces::reader::Answer;
 use pieces::reader::Found;
-use pieces::reader::Place;
 use pieces::reader::Reader;
+use pieces::reader::Where;
 use pieces::reader::record_in;
 
-// The place with a number; what is above 2 is none.
-fn place_is(n: u8) -> Place
-    ensures { λ r. ⌜ r ≡ placeIs n ⌝ }
+// Where a record is, by its number; what is above 2 is nowhere.
+fn where_is(n: u8) -> Where
+    ensures { λ r. ⌜ r ≡ whereIs n ⌝ }
 {
     match n {
-        0 => Place::Nowhere,
-        1 => Place::Carry,
-        2 => Place::Piece,
-        _ => Place::Nowhere,
+        0 => Where::Nowhere,
+        1 => Where::Carry,
+        2 => Where::Piece,
+        _ => Where::Nowhere,
     }
 }
 
-// The record that callcontrol_pieces_next handed on with this place and size, copied to the front of out and counted; 7 where out is shorter.
+// The record that callcontrol_pieces_next handed on with this number of where it lies and this size, copied to the front of out and counted; 7 where out is shorter.
 #[no_mangle]
 pub extern "C" fn callcontrol_test_record_in<'a>(
-    place: u8,
+    lies: u8,
     size: u8,
     carry: &'a [u8],
     piece: &'a [u8],
     out: &mut [u8],
 ) -> u32
-    ensures { λ r. ⌜ _≡_ {A = ℕ × List ℕ} (r, now (out .exit)) (recordCopied place size (now (carry .entry)) (now (piece .entry)) (now (out .entry))) ⌝ }
+    ensures { λ r. ⌜ _≡_ {A = ℕ × List ℕ} (r, now (out .exit)) (recordCopied lies size (now (carry .entry)) (now (piece .entry)) (now (out .entry))) ⌝ }
 {
     let found = Found {
         answer: Answer::Taken,
-        place: place_is(place),
+        lies: where_is(lies),
         size: size as usize,
         used: 0,
         reader: Reader::fresh(),

@@ -9,7 +9,7 @@ use lib.ListN.{length, take}
 use Rattle.pieces.specs.declared.front.Front.{Front}
 use Rattle.pieces.specs.declared.front.Front.the-variants.{Unended, Whole, Impossible}
 use Rattle.pieces.specs.declared.reader.Answer.{Answer}
-use Rattle.pieces.specs.declared.reader.Place.{Place}
+use Rattle.pieces.specs.declared.reader.Where.{Where}
 use Rattle.pieces.specs.declared.reader.Reader.{Reader}
 use Rattle.pieces.specs.declared.reader.Found.{Found}
 use Rattle.pieces.specs.Stream.{front, byFront}
@@ -18,7 +18,7 @@ use Rattle.pieces.proofs.Fronts.{unended-short, whole-is, begun-unended
 use Rattle.pieces.proofs.Seen.{seen-length}
 
 abbrev refusedAs : Answer → Reader → Found
-refusedAs a r = record { answer = a; place = Place.Nowhere; size = 0; used = 0; reader = r }
+refusedAs a r = record { answer = a; lies = Where.Nowhere; size = 0; used = 0; reader = r }
 
 module _ (r : Reader) (carry piece : List ℕ) where
   pub small-carry : {f : Found} → f ≡ refusedAs Answer.SmallCarry r → length carry < 64 → asOutcome f carry ≡ nextOf r carry piece
@@ -52,7 +52,7 @@ module _ (r : Reader) (carry piece : List ℕ) where
       pub hands-on : {n : ℕ} → f ≡ Whole n → {x : Outcome} → x ≡ handedOn (r .carried) carry piece n → x ≡ nextOf r carry piece
       hands-on e {x} k = k ∙ (rw e at goes)
 
-      pub stops : f ≡ Impossible → {g : Found} → g ≡ refusedAs Answer.BadLength stoppedReader → asOutcome g carry ≡ nextOf r carry piece
+      pub stops : f ≡ Impossible → {g : Found} → g ≡ refusedAs Answer.ImpossibleLength stoppedReader → asOutcome g carry ≡ nextOf r carry piece
       stops e {g} k = rw k (rw e at goes)
 
       pub keep-room : f ≡ Unended → r .carried + length piece ≤ length carry

@@ -57,11 +57,11 @@ module _ (r : Reader) (carry piece : List ℕ) where
 -- ---- a record that is handed on, from the piece or from the carry
 
 either : (P : Outcome → Type 0) (c : ℕ) (carry piece : List ℕ) (n : ℕ)
-    → (c ≡ 0 → P (record { answer = 0; place = 2; size = n; used = n; reader = record { carried = 0; stopped = false }; carry = carry }))
+    → (c ≡ 0 → P (record { answer = 0; lies = 2; size = n; used = n; reader = record { carried = 0; stopped = false }; carry = carry }))
     → ((c ≡ 0 → ⊥)
     → P (record {
       answer = 0;
-      place = 1;
+      lies = 1;
       size = n;
       used = n - c;
       reader = record { carried = 0; stopped = false };
@@ -145,7 +145,7 @@ uses r carry piece = uses-by r carry piece (nextOf r carry piece) (way r carry p
 -- ---- the loop over a piece
 
 module _ (piece : List ℕ) where
-  same-found : (b : Bool) (o : Outcome) {x y : Fed} → eqb (o .place) 0 ≡ b → (b ≡ false → x ≡ y) → foundThen o piece x ≡ foundThen o piece y
+  same-found : (b : Bool) (o : Outcome) {x y : Fed} → eqb (o .lies) 0 ≡ b → (b ≡ false → x ≡ y) → foundThen o piece x ≡ foundThen o piece y
   same-found true o e rest = rw e
   same-found false o e rest = rw (rest refl)
 
@@ -157,9 +157,9 @@ bound (suc j) zero r carry piece hj hk = absurd (omega arith)
 bound (suc j) (suc k) r carry piece hj hk =
     let o = nextOf r carry piece in
     let u = uses r carry piece in
-    same-found piece (eqb (o .place) 0) o refl
+    same-found piece (eqb (o .lies) 0) o refl
     (λ found.
-    let some = u .some (eqb-false (o .place) 0 found) in
+    let some = u .some (eqb-false (o .lies) 0 found) in
     let shorter : length (drop (o .used) piece) < length piece = rw length-drop (omega (arith, u .within)) in
     bound j k (o .reader) (o .carry) (drop (o .used) piece) (omega arith) (omega arith))
 
@@ -176,21 +176,21 @@ taken-is-record s {n} w =
     let high = getD-take n s 1 0 (omega (arith, w .least)) in
     rw (size, low, high, ← w .says, le-leb 4 n (w .least), le-leb n 64 (w .most), eq-eqb n n refl)
 
-record-by : (r : Reader) (carry piece : List ℕ) (o : Outcome) → Way r carry piece o → (o .place ≡ 0 → ⊥)
-    → isRecord (recordIn (o .place) (o .size) (o .carry) piece) ≡ true
+record-by : (r : Reader) (carry piece : List ℕ) (o : Outcome) → Way r carry piece o → (o .lies ≡ 0 → ⊥)
+    → isRecord (recordIn (o .lies) (o .size) (o .carry) piece) ≡ true
 unfolding kept
 record-by r carry piece _ small h = absurd (h refl)
 record-by r carry piece _ still h = absurd (h refl)
 record-by r carry piece _ (keeps fit e) h = absurd (h refl)
 record-by r carry piece _ (hands fit n e more) h =
     let w = taken-is-record (take (r .carried) carry ++ piece) (whole-is (take (r .carried) carry ++ piece) e) in
-    either (λ (o : Outcome). isRecord (recordIn (o .place) (o .size) (o .carry) piece) ≡ true) (r .carried) carry piece n
+    either (λ (o : Outcome). isRecord (recordIn (o .lies) (o .size) (o .carry) piece) ≡ true) (r .carried) carry piece n
     (λ z. rw z at w)
     (λ z. rw (completed (r .carried) carry piece (omega (arith, fit .room, fit .few)) e more) w)
 record-by r carry piece _ stops h = absurd (h refl)
 
-every-found : (b : Bool) (o : Outcome) (piece : List ℕ) (rest : Fed) → eqb (o .place) 0 ≡ b
-    → (b ≡ false → isRecord (recordIn (o .place) (o .size) (o .carry) piece) ≡ true) → every? isRecord (rest .records) ≡ true
+every-found : (b : Bool) (o : Outcome) (piece : List ℕ) (rest : Fed) → eqb (o .lies) 0 ≡ b
+    → (b ≡ false → isRecord (recordIn (o .lies) (o .size) (o .carry) piece) ≡ true) → every? isRecord (rest .records) ≡ true
     → every? isRecord (foundThen o piece rest .records) ≡ true
 every-found true o piece rest e is h = rw e
 every-found false o piece rest e is h = rw (e, is refl, h)
@@ -200,7 +200,7 @@ unfolding feedWithin
 every-fed zero r carry piece = refl
 every-fed (suc k) r carry piece =
     let o = nextOf r carry piece in
-    every-found (eqb (o .place) 0) o piece (feedWithin k (o .reader) (o .carry) (drop (o .used) piece)) refl (λ found. record-by r carry piece o (way r carry piece) (eqb-false (o .place) 0 found))
+    every-found (eqb (o .lies) 0) o piece (feedWithin k (o .reader) (o .carry) (drop (o .used) piece)) refl (λ found. record-by r carry piece o (way r carry piece) (eqb-false (o .lies) 0 found))
     (every-fed k (o .reader) (o .carry) (drop (o .used) piece))
 
 every-cons : (a b d : Bool) → (a && b) ≡ true → (b ≡ true → d ≡ true) → (a && d) ≡ true

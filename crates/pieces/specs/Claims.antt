@@ -67,9 +67,9 @@ WholeRecords = (r : Reader) (carry : List ℕ) (pieces : List (List ℕ)) → ev
 
 -- it uses a byte of the piece at least, and none behind the piece; where nothing is found and nothing refused, the piece is used up
 pub record Uses (o : Outcome) (piece : List ℕ) : Type 0 where
-  pub some : (o .place ≡ 0 → ⊥) → 0 < o .used
+  pub some : (o .lies ≡ 0 → ⊥) → 0 < o .used
   pub within : o .used ≤ length piece
-  pub all : o .answer ≡ 0 → o .place ≡ 0 → o .used ≡ length piece
+  pub all : o .answer ≡ 0 → o .lies ≡ 0 → o .used ≡ length piece
 
 abbrev pub BytesUsed : Type 0
 BytesUsed = (r : Reader) (carry piece : List ℕ) → Uses (nextOf r carry piece) piece

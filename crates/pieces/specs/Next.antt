@@ -8,7 +8,7 @@ use lib.Seq.{paste}
 use Rattle.pieces.specs.declared.front.Front.{Front}
 use Rattle.pieces.specs.declared.front.Front.the-variants.{Unended, Whole, Impossible}
 use Rattle.pieces.specs.declared.reader.Answer.{Answer}
-use Rattle.pieces.specs.declared.reader.Place.{Place}
+use Rattle.pieces.specs.declared.reader.Where.{Where}
 use Rattle.pieces.specs.declared.reader.Reader.{Reader}
 use Rattle.pieces.specs.declared.reader.Found.{Found}
 use Rattle.pieces.specs.Stream.{front, byFront}
@@ -19,22 +19,22 @@ freshReader = record { carried = 0; stopped = false }
 abbrev pub stoppedReader : Reader
 stoppedReader = record { carried = 0; stopped = true }
 
--- the number of each answer, and of each place
+-- the number of each answer, and of where the record is
 abbrev pub answerNumber : Answer → ℕ
 answerNumber Answer.Taken = 0
-answerNumber Answer.BadLength = 20
+answerNumber Answer.ImpossibleLength = 20
 answerNumber Answer.Stopped = 21
 answerNumber Answer.SmallCarry = 22
 
-abbrev pub placeNumber : Place → ℕ
-placeNumber Place.Nowhere = 0
-placeNumber Place.Carry = 1
-placeNumber Place.Piece = 2
+abbrev pub whereNumber : Where → ℕ
+whereNumber Where.Nowhere = 0
+whereNumber Where.Carry = 1
+whereNumber Where.Piece = 2
 
 -- what comes back, with the carry then
 pub record Outcome : Type 0 where
   pub answer : ℕ
-  pub place : ℕ
+  pub lies : ℕ
   pub size : ℕ
   pub used : ℕ
   pub reader : Reader
@@ -43,18 +43,18 @@ pub record Outcome : Type 0 where
 abbrev pub asOutcome : Found → List ℕ → Outcome
 asOutcome f carry =
     record
-    { answer = answerNumber (f .answer); place = placeNumber (f .place); size = f .size; used = f .used; reader = f .reader; carry = carry }
+    { answer = answerNumber (f .answer); lies = whereNumber (f .lies); size = f .size; used = f .used; reader = f .reader; carry = carry }
 
 -- a refusal hands nothing on, uses no byte and changes none
 abbrev pub refusal : ℕ → Reader → List ℕ → Outcome
-refusal n r carry = record { answer = n; place = 0; size = 0; used = 0; reader = r; carry = carry }
+refusal n r carry = record { answer = n; lies = 0; size = 0; used = 0; reader = r; carry = carry }
 
 -- a piece that ends no record is carried whole, behind what is carried already
 unfoldable pub kept : ℕ → List ℕ → List ℕ → Outcome
 kept carried carry piece =
     record {
       answer = 0;
-      place = 0;
+      lies = 0;
       size = 0;
       used = length piece;
       reader = record { carried = carried + length piece; stopped = false };
@@ -65,10 +65,10 @@ kept carried carry piece =
 unfoldable pub handedOn : ℕ → List ℕ → List ℕ → ℕ → Outcome
 handedOn carried carry piece size =
     cond (eqb carried 0)
-    (record { answer = 0; place = 2; size = size; used = size; reader = freshReader; carry = carry })
+    (record { answer = 0; lies = 2; size = size; used = size; reader = freshReader; carry = carry })
     (record {
       answer = 0;
-      place = 1;
+      lies = 1;
       size = size;
       used = size - carried;
       reader = freshReader;
@@ -93,6 +93,6 @@ nextOf r carry piece =
     cond (ltb (length carry) 64) (refusal 22 r carry)
     (cond (r .stopped || ltb 63 (r .carried)) (refusal 21 r carry) (found (r .carried) carry piece))
 
--- the record that was handed on, by its place and size
+-- the record that was handed on, by where it lies and its size
 abbrev pub recordIn : ℕ → ℕ → List ℕ → List ℕ → List ℕ
-recordIn place size carry piece = cond (eqb place 1) (take size carry) (cond (eqb place 2) (take size piece) [])
+recordIn lies size carry piece = cond (eqb lies 1) (take size carry) (cond (eqb lies 2) (take size piece) [])

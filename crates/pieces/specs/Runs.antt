@@ -18,9 +18,9 @@ pub record Fed : Type 0 where
 -- what was found, and then the rest
 abbrev pub foundThen : Outcome → List ℕ → Fed → Fed
 foundThen o piece rest =
-    cond (eqb (o .place) 0) (record { records = []; answers = o .answer ∷ []; reader = o .reader; carry = o .carry })
+    cond (eqb (o .lies) 0) (record { records = []; answers = o .answer ∷ []; reader = o .reader; carry = o .carry })
     (record {
-      records = recordIn (o .place) (o .size) (o .carry) piece ∷ rest .records;
+      records = recordIn (o .lies) (o .size) (o .carry) piece ∷ rest .records;
       answers = o .answer ∷ rest .answers;
       reader = rest .reader;
       carry = rest .carry;

@@ -3,7 +3,7 @@ ghost use mathlib.Core.Path.{_≡_};
 ghost use Prim.Native.Nat.{_+_, _-_, _≤_, _<_};
 ghost use lib.ListN.{length, take};
 ghost use lib.Seq.{paste};
-ghost use Rattle.pieces.specs.Next.{freshReader, nextOf, kept, handedOn, asOutcome, recordIn, answerNumber, placeNumber};
+ghost use Rattle.pieces.specs.Next.{freshReader, nextOf, kept, handedOn, asOutcome, recordIn, answerNumber, whereNumber};
 use crate::front::Front;
 use crate::front::front_of;
 
@@ -31,7 +31,7 @@ pub enum Answer {
     // 0: taken.
     Taken,
     // 20: the length is impossible.
-    BadLength,
+    ImpossibleLength,
     // 21: the reader is stopped.
     Stopped,
     // 22: the carry has under 64 bytes.
@@ -39,7 +39,7 @@ pub enum Answer {
 }
 
 // Where the record is.
-pub enum Place {
+pub enum Where {
     // Nothing is handed on.
     Nowhere,
     // At the front of the carry.
@@ -55,39 +55,39 @@ pub fn answer_number(answer: Answer) -> u32
 {
     match answer {
         Answer::Taken => 0,
-        Answer::BadLength => 20,
+        Answer::ImpossibleLength => 20,
         Answer::Stopped => 21,
         Answer::SmallCarry => 22,
     }
 }
 
-// The number of a place.
-pub fn place_number(place: Place) -> u32
-    ensures { λ r. ⌜ r ≡ placeNumber place ⌝ }
+// The number of where a record is.
+pub fn where_number(lies: Where) -> u32
+    ensures { λ r. ⌜ r ≡ whereNumber lies ⌝ }
     ensures { λ r. ⌜ r < 3 ⌝ }
 {
-    match place {
-        Place::Nowhere => 0,
-        Place::Carry => 1,
-        Place::Piece => 2,
+    match lies {
+        Where::Nowhere => 0,
+        Where::Carry => 1,
+        Where::Piece => 2,
     }
 }
 
 // The answer, the record, and what is left to do with the piece: the bytes behind those used are handed in next.
 pub struct Found {
     pub answer: Answer,
-    pub place: Place,
+    pub lies: Where,
     pub size: usize,
     pub used: usize,
     pub reader: Reader,
 }
 
 fn refused(answer: Answer, reader: Reader) -> Found
-    ensures { λ r. ⌜ r ≡ record { answer = answer; place = Place.Nowhere; size = 0; used = 0; reader = reader } ⌝ }
+    ensures { λ r. ⌜ r ≡ record { answer = answer; lies = Where.Nowhere; size = 0; used = 0; reader = reader } ⌝ }
 {
     Found {
         answer,
-        place: Place::Nowhere,
+        lies: Where::Nowhere,
         size: 0,
         used: 0,
         reader,
@@ -115,7 +115,7 @@ fn keep(carried: usize, carry: &mut [u8], piece: &[u8]) -> Found
     copy(carry, carried, piece, all);
     Found {
         answer: Answer::Taken,
-        place: Place::Nowhere,
+        lies: Where::Nowhere,
         size: 0,
         used: all,
         reader: Reader {
@@ -141,7 +141,7 @@ fn hand_on(carried: usize, carry: &mut [u8], piece: &[u8], size: usize) -> Found
     if carried == 0 {
         return Found {
             answer: Answer::Taken,
-            place: Place::Piece,
+            lies: Where::Piece,
             size,
             used: size,
             reader: Reader::fresh(),
@@ -151,7 +151,7 @@ fn hand_on(carried: usize, carry: &mut [u8], piece: &[u8], size: usize) -> Found
     copy(carry, carried, piece, rest);
     Found {
         answer: Answer::Taken,
-        place: Place::Carry,
+        lies: Where::Carry,
         size,
         used: rest,
         reader: Reader::fresh(),
@@ -178,7 +178,7 @@ pub fn next(reader: Reader, carry: &mut [u8], piece: &[u8]) -> Found
         Front::Unended => keep(carried, carry, piece),
         Front::Whole(size) => hand_on(carried, carry, piece, size),
         Front::Impossible => refused(
-            Answer::BadLength,
+            Answer::ImpossibleLength,
             Reader {
                 carried: 0,
                 stopped: true,
@@ -195,13 +195,13 @@ fn front_part<'a>(s: &'a [u8], size: usize) -> &'a [u8]
 
 // The record that was handed on, as a part of the slice that holds it.
 pub fn record_in<'a>(found: Found, carry: &'a [u8], piece: &'a [u8]) -> &'a [u8]
-    ensures { λ r. ⌜ now r ≡ recordIn (placeNumber (found .place)) (found .size) (now (carry .entry)) (now (piece .entry)) ⌝ }
+    ensures { λ r. ⌜ now r ≡ recordIn (whereNumber (found .lies)) (found .size) (now (carry .entry)) (now (piece .entry)) ⌝ }
 {
-    let place = found.place;
+    let lies = found.lies;
     let size = found.size;
-    match place {
-        Place::Nowhere => front_part(piece, 0),
-        Place::Carry => front_part(carry, size),
-        Place::Piece => front_part(piece, size),
+    match lies {
+        Where::Nowhere => front_part(piece, 0),
+        Where::Carry => front_part(carry, size),
+        Where::Piece => front_part(piece, size),
     }
 }

@@ -10,12 +10,12 @@ use lib.ListN.{length, getD}
 use borrow.Author.Tests.{leb-true, leb-false, ltb-false, lt-ltb, eq-eqb, ne-eqb}
 use Rattle.timers.specs.Wrap.{shown, forward, isBack}
 use Rattle.timers.specs.Due.{numbers, keyOf, keysOf, oneIf, countOf, below, numberOf, handed}
-use Rattle.timers.specs.Bank.{placeOf, keysAt}
+use Rattle.timers.specs.Bank.{indexOf, keysAt}
 use Rattle.timers.specs.Time.{Times, isDue, Kept, occurs}
 use Rattle.timers.specs.Claims.{Runs, Holds, dueOf, before?, beforeAll, inOrder}
 use Rattle.timers.proofs.Tests.{by-test, decide, cond-same, All, weaken}
 use Rattle.timers.proofs.Keys.{most, sum, total, Distinct, falling, one-fewer, falling-total, falling-keys, sum-all, below-is, handed-is}
-use Rattle.timers.proofs.Places.{by-place, by-number, other-timer, rising}
+use Rattle.timers.proofs.Indices.{by-index, by-number, other-timer, rising}
 use Rattle.timers.proofs.Wrapping.{not-back, back, ahead, behind}
 
 -- a timer's key in true time
@@ -59,24 +59,24 @@ module _ (s : Kept) (h : Holds s) (time : ℕ) (a : s .times .last ≤ time) (b 
 
 -- a key above 0 tells its timer
 pub record IsKey (m : Times) (time y : ℕ) : Type 0 where
-  pub place : ℕ
-  pub one-of-seven : place < 7
+  pub index : ℕ
+  pub one-of-seven : index < 7
   pub deadline : ℕ
-  pub runs : m .until (getD numbers place 0) ≡ some deadline
+  pub runs : m .until (getD numbers index 0) ≡ some deadline
   pub past : deadline ≤ time
-  pub is : y ≡ (time - deadline) * 8 + (7 - place)
+  pub is : y ≡ (time - deadline) * 8 + (7 - index)
 
 is-key : (m : Times) (time p : ℕ) → p < 7 → (u : Option ℕ) → m .until (getD numbers p 0) ≡ u → 0 < trueKey time p u → IsKey m time (trueKey time p u)
 is-key m time p k none e = λ h. absurd (omega arith)
 is-key m time p k (some d) e =
     by-test (leb d time) ((time - d) * 8 + (7 - p)) 0 (λ y. 0 < y → IsKey m time y)
-    (λ q h. record { place = p; one-of-seven = k; deadline = d; runs = e; past = leb-true d time q; is = refl })
+    (λ q h. record { index = p; one-of-seven = k; deadline = d; runs = e; past = leb-true d time q; is = refl })
     (λ q h. absurd (omega arith))
 
-number-is : (m : Times) (time y : ℕ) (k : IsKey m time y) → numberOf y ≡ getD numbers (k .place) 0
+number-is : (m : Times) (time y : ℕ) (k : IsKey m time y) → numberOf y ≡ getD numbers (k .index) 0
 unfolding numberOf
 number-is m time y k =
-    let p = k .place in
+    let p = k .index in
     let at : 7 - y % 8 ≡ p = omega (arith, k .is, k .one-of-seven) in
     rw at
 
@@ -89,8 +89,8 @@ comes-before m time x y h k l =
     (λ q.
     let not-earlier : l .deadline ≤ k .deadline = ltb-false (k .deadline) (l .deadline) q in
     let equal : k .deadline ≡ l .deadline = omega (arith, k .is, l .is, k .past, l .past, k .one-of-seven, l .one-of-seven) in
-    let lower : k .place < l .place = omega (arith, k .is, l .is, k .past, l .past, k .one-of-seven, l .one-of-seven, equal) in
-    rw (q, eq-eqb (k .deadline) (l .deadline) equal, lt-ltb (getD numbers (k .place) 0) (getD numbers (l .place) 0) (rising (k .place) (l .place) lower (l .one-of-seven)))))
+    let lower : k .index < l .index = omega (arith, k .is, l .is, k .past, l .past, k .one-of-seven, l .one-of-seven, equal) in
+    rw (q, eq-eqb (k .deadline) (l .deadline) equal, lt-ltb (getD numbers (k .index) 0) (getD numbers (l .index) 0) (rising (k .index) (l .index) lower (l .one-of-seven)))))
 
 comes-before-all : (m : Times) (time x : ℕ) (ys : List ℕ) → IsKey m time x → All (λ y. (0 < y) × (y < x) × IsKey m time y) ys
     → beforeAll m (numberOf x) (map numberOf ys) ≡ true
@@ -132,7 +132,7 @@ weigh-key m time n p h (some d) e =
     decide (leb d time)
     (λ q.
     let y = (time - d) * 8 + (7 - p) in
-    let key : IsKey m time y = record { place = p; one-of-seven = h; deadline = d; runs = e; past = leb-true d time q; is = refl } in
+    let key : IsKey m time y = record { index = p; one-of-seven = h; deadline = d; runs = e; past = leb-true d time q; is = refl } in
     rw (q, ne-eqb y 0 (above-zero (time - d) p h), number-is m time y key))
     (λ q. rw (q, cond-same {A = ℕ} (eqb (getD numbers p 0) n) 0))
 
@@ -204,7 +204,7 @@ module _ (m : Times) (time : ℕ) where
       omega (arith, one-due time 0 (lit< tt) (m .until 301), one-due time 1 (lit< tt) (m .until 302), one-due time 2 (lit< tt) (m .until 303), one-due time 3 (lit< tt) (m .until 306), one-due time 4 (lit< tt) (m .until 308), one-due time 5 (lit< tt) (m .until 310), one-due time 6 (lit< tt) (m .until 311))
 
   -- of the seven at most one is the timer n
-  total-weigh : ((n : ℕ) → 7 ≤ placeOf n → m .until n ≡ none) → (n : ℕ) → total (weigh n) (trueKeys m time) ≡ cond (isDue time (m .until n)) 1 0
+  total-weigh : ((n : ℕ) → 7 ≤ indexOf n → m .until n ≡ none) → (n : ℕ) → total (weigh n) (trueKeys m time) ≡ cond (isDue time (m .until n)) 1 0
   total-weigh others n =
       rw (weigh-key m time n 0 (lit< tt) (m .until 301) refl, weigh-key m time n 1 (lit< tt) (m .until 302) refl, weigh-key m time n 2 (lit< tt) (m .until 303) refl, weigh-key m time n 3 (lit< tt) (m .until 306) refl, weigh-key m time n 4 (lit< tt) (m .until 308) refl, weigh-key m time n 5 (lit< tt) (m .until 310) refl, weigh-key m time n 6 (lit< tt) (m .until 311) refl)
       (by-number
@@ -219,7 +219,7 @@ module _ (m : Times) (time : ℕ) where
       ≡ cond (isDue time (m .until n)) 1 0)
       (omega arith) (omega arith) (omega arith) (omega arith) (omega arith) (omega arith) (omega arith)
       (λ n e.
-      let no-timer : 7 ≤ placeOf n = omega (arith, e) in
+      let no-timer : 7 ≤ indexOf n = omega (arith, e) in
       rw (other-timer 0 (lit< tt) n no-timer, other-timer 1 (lit< tt) n no-timer, other-timer 2 (lit< tt) n no-timer, other-timer 3 (lit< tt) n no-timer, other-timer 4 (lit< tt) n no-timer, other-timer 5 (lit< tt) n no-timer, other-timer 6 (lit< tt) n no-timer, others n no-timer))
       n)
 

@@ -10,7 +10,7 @@ use native.Mathlib.Omega.{arith}
 use Rattle.timers.specs.declared.bank.Bank.{Bank}
 use Rattle.timers.specs.Wrap.{shown, forward, isBack}
 use Rattle.timers.specs.Due.{countOf}
-use Rattle.timers.specs.Bank.{Outcome, refusal, ordered, without, with, inRange, entryOf, lengthIn, placeOf, stopped, started, advanced, advancedTo, handedAt, keysAt}
+use Rattle.timers.specs.Bank.{Outcome, refusal, ordered, without, with, inRange, entryOf, lengthIn, indexOf, stopped, started, advanced, advancedTo, handedAt, keysAt}
 use Rattle.timers.specs.Time.{Call, stop, start, reading, outcome, isTaken, handedBy, Kept, next, noted}
 use Rattle.timers.specs.Claims.{Unchanged, lentBy}
 use Rattle.timers.proofs.Tests.{by-test}
@@ -28,11 +28,11 @@ accepting b time list =
 pub unchanged : Unchanged
 unfolding isTaken outcome stopped started advanced
 unchanged b (stop n) =
-    by-test (ltb (placeOf n) 7) (ordered (without b (placeOf n))) (refusal 30 b [])
+    by-test (ltb (indexOf n) 7) (ordered (without b (indexOf n))) (refusal 30 b [])
     (λ o. eqb (o .answer) 0 ≡ false → o ≡ refusal (o .answer) b []) (λ q t. absurd (true≢false t)) (λ q t. refl)
 unchanged b (start table n code) =
-    let made = ordered (with b (placeOf n) (lengthIn table n code)) in
-    by-test (ltb (placeOf n) 7) (cond (eqb (lengthIn table n code) 0) (refusal 31 b []) made) (refusal 30 b [])
+    let made = ordered (with b (indexOf n) (lengthIn table n code)) in
+    by-test (ltb (indexOf n) 7) (cond (eqb (lengthIn table n code) 0) (refusal 31 b []) made) (refusal 30 b [])
     (λ o. eqb (o .answer) 0 ≡ false → o ≡ refusal (o .answer) b [])
     (λ q.
     by-test (eqb (lengthIn table n code) 0) (refusal 31 b []) made (λ o. eqb (o .answer) 0 ≡ false → o ≡ refusal (o .answer) b [])
@@ -46,24 +46,24 @@ unchanged b (reading time list) =
     by-test (ltb (length list) (countOf (keysAt b (shown time)))) (refusal 33 b list) (accepting b time list)
     (λ o. eqb (o .answer) 0 ≡ false → o ≡ refusal (o .answer) b list) (λ r t. refl) (λ r t. absurd (true≢false t)))
 
-pub stop-taken : (b : Bank) (n : ℕ) → isTaken b (stop n) ≡ true → (placeOf n < 7) × (outcome b (stop n) ≡ ordered (without b (placeOf n)))
+pub stop-taken : (b : Bank) (n : ℕ) → isTaken b (stop n) ≡ true → (indexOf n < 7) × (outcome b (stop n) ≡ ordered (without b (indexOf n)))
 unfolding isTaken outcome stopped
 stop-taken b n =
-    by-test (ltb (placeOf n) 7) (ordered (without b (placeOf n))) (refusal 30 b [])
-    (λ o. eqb (o .answer) 0 ≡ true → (placeOf n < 7) × (o ≡ ordered (without b (placeOf n)))) (λ q t. (ltb-true (placeOf n) 7 q, refl))
+    by-test (ltb (indexOf n) 7) (ordered (without b (indexOf n))) (refusal 30 b [])
+    (λ o. eqb (o .answer) 0 ≡ true → (indexOf n < 7) × (o ≡ ordered (without b (indexOf n)))) (λ q t. (ltb-true (indexOf n) 7 q, refl))
     (λ q t. absurd (false≢true t))
 
 pub start-taken : (b : Bank) (table : List ℕ) (n code : ℕ) → isTaken b (start table n code) ≡ true
-    → (placeOf n < 7) × (lengthIn table n code ≡ 0 → ⊥) × (outcome b (start table n code) ≡ ordered (with b (placeOf n) (lengthIn table n code)))
+    → (indexOf n < 7) × (lengthIn table n code ≡ 0 → ⊥) × (outcome b (start table n code) ≡ ordered (with b (indexOf n) (lengthIn table n code)))
 unfolding isTaken outcome started
 start-taken b table n code =
-    let made = ordered (with b (placeOf n) (lengthIn table n code)) in
-    by-test (ltb (placeOf n) 7) (cond (eqb (lengthIn table n code) 0) (refusal 31 b []) made) (refusal 30 b [])
-    (λ o. eqb (o .answer) 0 ≡ true → (placeOf n < 7) × (lengthIn table n code ≡ 0 → ⊥) × (o ≡ made))
+    let made = ordered (with b (indexOf n) (lengthIn table n code)) in
+    by-test (ltb (indexOf n) 7) (cond (eqb (lengthIn table n code) 0) (refusal 31 b []) made) (refusal 30 b [])
+    (λ o. eqb (o .answer) 0 ≡ true → (indexOf n < 7) × (lengthIn table n code ≡ 0 → ⊥) × (o ≡ made))
     (λ q.
     by-test (eqb (lengthIn table n code) 0) (refusal 31 b []) made
-    (λ o. eqb (o .answer) 0 ≡ true → (placeOf n < 7) × (lengthIn table n code ≡ 0 → ⊥) × (o ≡ made)) (λ r t. absurd (false≢true t))
-    (λ r t. (ltb-true (placeOf n) 7 q, eqb-false (lengthIn table n code) 0 r, refl)))
+    (λ o. eqb (o .answer) 0 ≡ true → (indexOf n < 7) × (lengthIn table n code ≡ 0 → ⊥) × (o ≡ made)) (λ r t. absurd (false≢true t))
+    (λ r t. (ltb-true (indexOf n) 7 q, eqb-false (lengthIn table n code) 0 r, refl)))
     (λ q t. absurd (false≢true t))
 
 pub reading-taken : (b : Bank) (time : ℕ) (list : List ℕ) → isTaken b (reading time list) ≡ true

@@ -14,13 +14,13 @@ use Rattle.timers.specs.Bank.{Outcome, answerNumber, asOrdered, asAdvanc
 answer-back : ℕ → Answer
 answer-back n =
     cond (eqb n 0) Answer.Taken
-    (cond (eqb n 30) Answer.TimerUnknown (cond (eqb n 31) Answer.BadLength (cond (eqb n 32) Answer.ReadingEarlier Answer.ListShort)))
+    (cond (eqb n 30) Answer.TimerUnknown (cond (eqb n 31) Answer.LengthOutOfRange (cond (eqb n 32) Answer.ReadingEarlier Answer.ListShort)))
 
 answer-same : (a : Answer) → answer-back (answerNumber a) ≡ a
 unfolding answer-back
 answer-same Answer.Taken = refl
 answer-same Answer.TimerUnknown = refl
-answer-same Answer.BadLength = refl
+answer-same Answer.LengthOutOfRange = refl
 answer-same Answer.ReadingEarlier = refl
 answer-same Answer.ListShort = refl
 

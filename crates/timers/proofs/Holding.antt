@@ -12,11 +12,11 @@ use borrow.Author.Tests.{eqb-true, eqb-false, leb-true, leb-false, ne-eqb}
 use Rattle.timers.specs.declared.bank.Bank.{Bank}
 use Rattle.timers.specs.Wrap.{shown}
 use Rattle.timers.specs.Due.{numbers, stays, staying}
-use Rattle.timers.specs.Bank.{Outcome, without, with, placeOf, lengthIn, newBank, advancedTo, keysAt}
+use Rattle.timers.specs.Bank.{Outcome, without, with, indexOf, lengthIn, newBank, advancedTo, keysAt}
 use Rattle.timers.specs.Time.{Call, stop, start, reading, outcome, isTaken, Times, isDue, Kept, noted, made, next, run, InReach, AllInReach}
 use Rattle.timers.specs.Claims.{Runs, Holds}
 use Rattle.timers.proofs.Tests.{decide, cond-same}
-use Rattle.timers.proofs.Places.{by-place, same-timer}
+use Rattle.timers.proofs.Indices.{by-index, same-timer}
 use Rattle.timers.proofs.Agreement.{trueKey, trueKeys, keys-are, above-zero}
 use Rattle.timers.proofs.Calls.{accepting, stop-taken, start-taken, reading-taken, length-most, refused-keeps, taken-makes}
 
@@ -26,7 +26,7 @@ holds-made time =
     record {
       last = refl;
       timers =
-          by-place
+          by-index
           (λ p. getD (false ∷ false ∷ false ∷ false ∷ false ∷ false ∷ false ∷ []) p false ≡ false)
           refl refl refl refl refl refl refl;
       others = λ n k. refl;
@@ -34,12 +34,12 @@ holds-made time =
     }
 
 module _ (s : Kept) (h : Holds s) where
-  holds-stop : (n : ℕ) → placeOf n < 7 → Holds (record { bank = without (s .bank) (placeOf n); times = noted (s .times) (stop n) })
+  holds-stop : (n : ℕ) → indexOf n < 7 → Holds (record { bank = without (s .bank) (indexOf n); times = noted (s .times) (stop n) })
   unfolding noted
   holds-stop n k =
       let b = s .bank in
       let m = s .times in
-      let p = placeOf n in
+      let p = indexOf n in
       record {
         last = h .last;
         timers =
@@ -52,13 +52,13 @@ module _ (s : Kept) (h : Holds s) where
         sevens = (rw length-set (h .sevens .0), h .sevens .1);
       }
 
-  holds-start : (table : List ℕ) (n code : ℕ) → placeOf n < 7 → (lengthIn table n code ≡ 0 → ⊥)
-      → Holds (record { bank = with (s .bank) (placeOf n) (lengthIn table n code); times = noted (s .times) (start table n code) })
+  holds-start : (table : List ℕ) (n code : ℕ) → indexOf n < 7 → (lengthIn table n code ≡ 0 → ⊥)
+      → Holds (record { bank = with (s .bank) (indexOf n) (lengthIn table n code); times = noted (s .times) (start table n code) })
   unfolding noted
   holds-start table n code k some-length =
       let b = s .bank in
       let m = s .times in
-      let p = placeOf n in
+      let p = indexOf n in
       let long = lengthIn table n code in
       let most = length-most table n code in
       let counted : (b .last + long) % 4294967296 ≡ shown (m .last + long) = rw (h .last) (omega arith) in
@@ -83,7 +83,7 @@ module _ (s : Kept) (h : Holds s) where
               getD-set-other (b .deadlines) p q ((b .last + long) % 4294967296) 0 (eqb-false q p e),
             )
             (h .timers q l)));
-        others = λ i l. rw (ne-eqb i n (λ e. let at : placeOf i ≡ p = ap placeOf e in omega (arith, at, l, k))) (h .others i l);
+        others = λ i l. rw (ne-eqb i n (λ e. let at : indexOf i ≡ p = ap indexOf e in omega (arith, at, l, k))) (h .others i l);
         sevens = (rw length-set (h .sevens .0), rw length-set (h .sevens .1));
       }
 
@@ -117,7 +117,7 @@ module _ (s : Kept) (h : Holds s) (time : ℕ) (a : s .times .last ≤ time) (b 
             → Runs time (getD (staying (s .bank .running) keys) p false) (getD (s .bank .deadlines) p 0)
             (cond (isDue time (m .until (getD numbers p 0))) none (m .until (getD numbers p 0))))
             (sym (keys-are s h time a b))
-            (by-place
+            (by-index
             (λ p.
             Runs time (getD (staying (s .bank .running) (trueKeys m time)) p false) (getD (s .bank .deadlines) p 0)
             (cond (isDue time (m .until (getD numbers p 0))) none (m .until (getD numbers p 0))))

@@ -6,7 +6,7 @@ pub mod Handing
 pub mod Holding
 pub mod Keys
 pub mod Pairs
-pub mod Places
+pub mod Indices
 pub mod Tests
 pub mod Witness
 pub mod Wrapping

@@ -15,7 +15,7 @@ use Rattle.timers.specs.Due.{keysOf, countOf, handed, staying}
 abbrev pub answerNumber : Answer → ℕ
 answerNumber Answer.Taken = 0
 answerNumber Answer.TimerUnknown = 30
-answerNumber Answer.BadLength = 31
+answerNumber Answer.LengthOutOfRange = 31
 answerNumber Answer.ReadingEarlier = 32
 answerNumber Answer.ListShort = 33
 
@@ -49,9 +49,9 @@ newBank reading =
       running = false ∷ false ∷ false ∷ false ∷ false ∷ false ∷ false ∷ [];
     }
 
--- a timer's place of seven, by rising number; 7 for a number that no timer has
-unfoldable pub placeOf : ℕ → ℕ
-placeOf n =
+-- a timer's index of seven, by rising number; 7 for a number that no timer has
+unfoldable pub indexOf : ℕ → ℕ
+indexOf n =
     cond (eqb n 301) 0
     (cond (eqb n 302) 1
     (cond (eqb n 303) 2 (cond (eqb n 306) 3 (cond (eqb n 308) 4 (cond (eqb n 310) 5 (cond (eqb n 311) 6 7))))))
@@ -71,23 +71,23 @@ lengthIn table n code = cond (ltb (entryOf n code) 22) (inRange (getD table (ent
 
 -- a timer stopped, and one started with a length from the last reading on
 abbrev pub without : Bank → ℕ → Bank
-without b place = record { last = b .last; deadlines = b .deadlines; running = set (b .running) place false }
+without b index = record { last = b .last; deadlines = b .deadlines; running = set (b .running) index false }
 
 abbrev pub with : Bank → ℕ → ℕ → Bank
-with b place length =
+with b index length =
     record {
       last = b .last;
-      deadlines = set (b .deadlines) place ((b .last + length) % 4294967296);
-      running = set (b .running) place true;
+      deadlines = set (b .deadlines) index ((b .last + length) % 4294967296);
+      running = set (b .running) index true;
     }
 
 unfoldable pub stopped : Bank → ℕ → Outcome
-stopped b n = cond (ltb (placeOf n) 7) (ordered (without b (placeOf n))) (refusal 30 b [])
+stopped b n = cond (ltb (indexOf n) 7) (ordered (without b (indexOf n))) (refusal 30 b [])
 
 unfoldable pub started : Bank → List ℕ → ℕ → ℕ → Outcome
 started b table n code =
-    cond (ltb (placeOf n) 7)
-    (cond (eqb (lengthIn table n code) 0) (refusal 31 b []) (ordered (with b (placeOf n) (lengthIn table n code))))
+    cond (ltb (indexOf n) 7)
+    (cond (eqb (lengthIn table n code) 0) (refusal 31 b []) (ordered (with b (indexOf n) (lengthIn table n code))))
     (refusal 30 b [])
 
 -- the keys of the timers at a reading, and the bank after those due are handed out

@@ -10,7 +10,7 @@ use lib.ListN.{length, getD}
 use Rattle.timers.specs.declared.bank.Bank.{Bank}
 use Rattle.timers.specs.Wrap.{shown}
 use Rattle.timers.specs.Due.{numbers}
-use Rattle.timers.specs.Bank.{refusal, placeOf, lengthIn}
+use Rattle.timers.specs.Bank.{refusal, indexOf, lengthIn}
 use Rattle.timers.specs.Time.{Call, stop, start, reading, outcome, isTaken, handedBy, Times, isDue, Kept, made, next, run, InReach, AllInReach, occurs, accepted, handouts, NotOrdered}
 
 -- the first of some times that is at or after another, as a list of one; of no time where there is none
@@ -81,9 +81,9 @@ Runs last running deadline (some d) = (running ≡ true) × (deadline ≡ shown 
 
 pub record Holds (s : Kept) : Type 0 where
   pub last : s .bank .last ≡ shown (s .times .last)
-  pub timers : (place : ℕ) → place < 7
-      → Runs (s .times .last) (getD (s .bank .running) place false) (getD (s .bank .deadlines) place 0) (s .times .until (getD numbers place 0))
-  pub others : (n : ℕ) → 7 ≤ placeOf n → s .times .until n ≡ none
+  pub timers : (index : ℕ) → index < 7
+      → Runs (s .times .last) (getD (s .bank .running) index false) (getD (s .bank .deadlines) index 0) (s .times .until (getD numbers index 0))
+  pub others : (n : ℕ) → 7 ≤ indexOf n → s .times .until n ≡ none
   pub sevens : (length (s .bank .running) ≡ 7) × (length (s .bank .deadlines) ≡ 7)
 
 abbrev pub EveryRun : Type 0

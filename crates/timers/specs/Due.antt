@@ -6,14 +6,14 @@ use lib.Dec.{eqb, ltb, leb}
 use lib.ListN.{getD}
 use Rattle.timers.specs.Wrap.{forward, isBack}
 
--- the timers' numbers, by place
+-- the timers' numbers, by index
 abbrev pub numbers : List ℕ
 numbers = 301 ∷ 302 ∷ 303 ∷ 306 ∷ 308 ∷ 310 ∷ 311 ∷ []
 
 -- a timer's key: 0 where it is not due; else the later the greater, and of two that are equally late the lower number's is the greater
 unfoldable pub keyOf : ℕ → Bool → ℕ → ℕ → ℕ
-keyOf place running deadline reading =
-    cond running (cond (isBack (forward deadline reading)) 0 (forward deadline reading * 8 + (7 - place))) 0
+keyOf index running deadline reading =
+    cond running (cond (isBack (forward deadline reading)) 0 (forward deadline reading * 8 + (7 - index))) 0
 
 unfoldable pub keysOf : List Bool → List ℕ → ℕ → List ℕ
 keysOf running deadlines reading =

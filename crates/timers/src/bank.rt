@@ -1,7 +1,7 @@
 // The bank of seven timers: STOP, START and readings of the host's counter.
 ghost use mathlib.Core.Path.{_≡_};
 ghost use Prim.Native.Nat.{_<_};
-ghost use Rattle.timers.specs.Bank.{answerNumber, newBank, placeOf, entryOf, lengthIn, stopped, started, advanced, asOrdered, asAdvanced};
+ghost use Rattle.timers.specs.Bank.{answerNumber, newBank, indexOf, entryOf, lengthIn, stopped, started, advanced, asOrdered, asAdvanced};
 use crate::due::count_of;
 use crate::due::hand_out;
 use crate::due::keys_of;
@@ -17,7 +17,7 @@ pub enum Answer {
     // 30: no timer has this number.
     TimerUnknown,
     // 31: the length is out of range or missing.
-    BadLength,
+    LengthOutOfRange,
     // 32: the reading is earlier than the last.
     ReadingEarlier,
     // 33: the lent list is shorter than the number due.
@@ -31,7 +31,7 @@ pub fn answer_number(answer: Answer) -> u32
     match answer {
         Answer::Taken => 0,
         Answer::TimerUnknown => 30,
-        Answer::BadLength => 31,
+        Answer::LengthOutOfRange => 31,
         Answer::ReadingEarlier => 32,
         Answer::ListShort => 33,
     }
@@ -59,9 +59,9 @@ pub struct Advanced {
     pub bank: Bank,
 }
 
-// A timer's place of seven, by rising number; 7 for a number that no timer has.
-fn place_of(timer: u16) -> usize
-    ensures { λ r. ⌜ r ≡ placeOf timer ⌝ }
+// A timer's index of seven, by rising number; 7 for a number that no timer has.
+fn index_of(timer: u16) -> usize
+    ensures { λ r. ⌜ r ≡ indexOf timer ⌝ }
 {
     match timer {
         301 => 0,
@@ -130,15 +130,15 @@ impl Bank {
     pub fn stop(self, timer: u16) -> Ordered
         ensures { λ r. ⌜ asOrdered r ≡ stopped self timer ⌝ }
     {
-        let place = place_of(timer);
-        if place >= 7 {
+        let index = index_of(timer);
+        if index >= 7 {
             return Ordered {
                 answer: Answer::TimerUnknown,
                 bank: self,
             };
         }
         let mut bank = self;
-        bank.running[place] = false;
+        bank.running[index] = false;
         Ordered {
             answer: Answer::Taken,
             bank,
@@ -149,8 +149,8 @@ impl Bank {
     pub fn start(self, table: &[u32], timer: u16, code: u8) -> Ordered
         ensures { λ r. ⌜ asOrdered r ≡ started self (now (table .entry)) timer code ⌝ }
     {
-        let place = place_of(timer);
-        if place >= 7 {
+        let index = index_of(timer);
+        if index >= 7 {
             return Ordered {
                 answer: Answer::TimerUnknown,
                 bank: self,
@@ -159,14 +159,14 @@ impl Bank {
         let length = Self::length_in(table, timer, code);
         if length == 0 {
             return Ordered {
-                answer: Answer::BadLength,
+                answer: Answer::LengthOutOfRange,
                 bank: self,
             };
         }
         let deadline = wrapping_add_u32(self.last, length);
         let mut bank = self;
-        bank.deadlines[place] = deadline;
-        bank.running[place] = true;
+        bank.deadlines[index] = deadline;
+        bank.running[index] = true;
         Ordered {
             answer: Answer::Taken,
             bank,

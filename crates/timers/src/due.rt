@@ -9,9 +9,9 @@ use crate::wrap::is_back;
 
 // A timer's key at a reading: 0 where it is not due. The later it is the greater is its key, and of two that are equally late the one with
 // the lower number has the greater; no two timers have one key.
-fn key_of(place: u64, running: bool, deadline: u32, reading: u32) -> u64
-    requires { ⌜ place < 7 ⌝ }
-    ensures { λ r. ⌜ r ≡ keyOf place running deadline reading ⌝ }
+fn key_of(index: u64, running: bool, deadline: u32, reading: u32) -> u64
+    requires { ⌜ index < 7 ⌝ }
+    ensures { λ r. ⌜ r ≡ keyOf index running deadline reading ⌝ }
 {
     if !running {
         return 0;
@@ -20,7 +20,7 @@ fn key_of(place: u64, running: bool, deadline: u32, reading: u32) -> u64
     if is_back(late) {
         return 0;
     }
-    late as u64 * 8 + (7 - place)
+    late as u64 * 8 + (7 - index)
 }
 
 // The seven keys, by rising number.

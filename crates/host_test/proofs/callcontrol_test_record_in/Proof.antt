@@ -17,17 +17,17 @@ callcontrol-test-record-in-spec =
     let d = c .before in
     let p = d .before .before in
     let z = p .before .before .before .before in
-    no-room (z .args .place) (z .args .size) (z .args .carry .now) (z .args .piece .now) (z .args .out .now) (p .place-is .ensures) (d .record-in .ensures) (c .if1 .taken))
+    no-room (z .args .lies) (z .args .size) (z .args .carry .now) (z .args .piece .now) (z .args .out .now) (p .where-is .ensures) (d .record-in .ensures) (c .if1 .taken))
     (λ c κs. search needs)
     (λ c.
     let d = c .before .before .before .before .before in
     let p = d .before .before in
     let z = p .before .before .before .before in
-    omega (arith, few (z .args .place) (z .args .size) (z .args .carry .now) (z .args .piece .now) (z .args .out .now) (p .place-is .ensures) (d .record-in .ensures), z .fits .size))
+    omega (arith, few (z .args .lies) (z .args .size) (z .args .carry .now) (z .args .piece .now) (z .args .out .now) (p .where-is .ensures) (d .record-in .ensures), z .fits .size))
     (λ c. search needs)
     (λ c.
     let e = c .before .before .before .before in
     let d = e .before in
     let p = d .before .before in
     let z = p .before .before .before .before in
-    copies (z .args .place) (z .args .size) (z .args .carry .now) (z .args .piece .now) (z .args .out .now) (p .place-is .ensures) (d .record-in .ensures) (e .if1 .left) (c .before .before .copy .ensures .1)))
+    copies (z .args .lies) (z .args .size) (z .args .carry .now) (z .args .piece .now) (z .args .out .now) (p .where-is .ensures) (d .record-in .ensures) (e .if1 .left) (c .before .before .copy .ensures .1)))

@@ -1,4 +1,4 @@
--- The stores are those of the definition, place after place.
+-- The stores are those of the definition, byte after byte.
 use Rattle.records.specs.Bytes.{bytes}
 use borrow.Author.Needs.{needs}
 use lib.ListN.{length-set}

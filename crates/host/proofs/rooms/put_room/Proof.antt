@@ -1,4 +1,4 @@
--- The stores are those of the definition, place after place.
+-- The stores are those of the definition, byte after byte.
 use Rattle.host.specs.Channel.{packedRoom}
 use Rattle.records.specs.Bytes.{bytes}
 use lib.ListN.{length-set}

@@ -1,4 +1,4 @@
--- Each place has its part.
+-- Each case has its part.
 use borrow.Author.Needs.{needs}
 use Rattle.pieces.proofs.reader.record_in.Statement.{statement}
 use Rattle.pieces.proofs.reader.record_in.Tie as tie

@@ -1,4 +1,4 @@
--- 30 by the timer's place, then 31 by its length.
+-- 30 by the timer's index, then 31 by its length.
 use Rattle.timers.specs.Bank.{started}
 use borrow.Author.Needs.{needs}
 use borrow.Author.Tests.{lt-ltb, le-ltb, eq-eqb, ne-eqb}
@@ -7,19 +7,19 @@ use Rattle.timers.proofs.bank.Bank.start.Tie as tie
 
 returns : tie.Need-returns
 unfolding started
-returns c = rw (← c .before .place-of .ensures, le-ltb (c .before .place-of .result) 7 (c .if1 .taken))
+returns c = rw (← c .before .index-of .ensures, le-ltb (c .before .index-of .result) 7 (c .if1 .taken))
 
 returns-2 : tie.Need-returns-2
 unfolding started
 returns-2 c =
-    let p = c .before .before .before .place-of in
+    let p = c .before .before .before .index-of in
     let l = c .before .length-in in
     rw (← p .ensures, lt-ltb (p .result) 7 (c .before .before .if1 .left), ← l .ensures, eq-eqb (l .result) 0 (c .if2 .taken))
 
 returns-3 : tie.Need-returns-3
 unfolding started
 returns-3 c =
-    let p = c .before .before .before .before .place-of in
+    let p = c .before .before .before .before .index-of in
     let l = c .before .before .length-in in
     rw (← p .ensures, lt-ltb (p .result) 7 (c .before .before .before .if1 .left), ← l .ensures, ne-eqb (l .result) 0 (c .before .if2 .left), c .wrapping-add-u32 .ensures)
 

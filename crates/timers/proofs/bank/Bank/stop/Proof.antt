@@ -1,4 +1,4 @@
--- By the timer's place.
+-- By the timer's index.
 use Rattle.timers.specs.Bank.{stopped}
 use borrow.Author.Needs.{needs}
 use borrow.Author.Tests.{lt-ltb, le-ltb}
@@ -7,11 +7,11 @@ use Rattle.timers.proofs.bank.Bank.stop.Tie as tie
 
 returns : tie.Need-returns
 unfolding stopped
-returns c = rw (← c .before .place-of .ensures, le-ltb (c .before .place-of .result) 7 (c .if1 .taken))
+returns c = rw (← c .before .index-of .ensures, le-ltb (c .before .index-of .result) 7 (c .if1 .taken))
 
 returns-2 : tie.Need-returns-2
 unfolding stopped
-returns-2 c = rw (← c .before .place-of .ensures, lt-ltb (c .before .place-of .result) 7 (c .if1 .left))
+returns-2 c = rw (← c .before .index-of .ensures, lt-ltb (c .before .index-of .result) 7 (c .if1 .left))
 
 pub stop-spec : {M : Type 1} → statement M
 stop-spec =

@@ -3,19 +3,19 @@ use Prim.Native.Nat.{ℕ, zero, suc, _≤_}
 use mathlib.Core.Path.{_≡_, refl}
 use native.Mathlib.Omega.{arith}
 use borrow.Author.Needs.{needs}
-use Rattle.pieces.specs.declared.reader.Place.{Place}
-use Rattle.host_test.specs.Record.{placeIs}
-use Rattle.host_test.proofs.place_is.Statement.{statement}
-use Rattle.host_test.proofs.place_is.Tie as tie
+use Rattle.pieces.specs.declared.reader.Where.{Where}
+use Rattle.host_test.specs.Record.{whereIs}
+use Rattle.host_test.proofs.where_is.Statement.{statement}
+use Rattle.host_test.proofs.where_is.Tie as tie
 
-last : (n : ℕ) → 3 ≤ n → Place.Nowhere ≡ placeIs n
+last : (n : ℕ) → 3 ≤ n → Where.Nowhere ≡ whereIs n
 last zero h = absurd (omega arith)
 last (suc zero) h = absurd (omega arith)
 last (suc (suc zero)) h = absurd (omega arith)
 last (suc (suc (suc n))) h = refl
 
-pub place-is-spec : {M : Type 1} → statement M
-place-is-spec =
+pub where-is-spec : {M : Type 1} → statement M
+where-is-spec =
     tie.close
     (tie.spec
     (λ c. search needs)
