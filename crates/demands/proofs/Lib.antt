@@ -27,5 +27,6 @@ pub mod Told
 pub mod Tracked
 pub mod Turns
 pub mod Witness
+pub mod Writes
 pub mod WrittenInRange
 pub mod WrongSteps

@@ -2,41 +2,34 @@
 use Prim.Native.Nat.{ℕ}
 use mathlib.Core.Path.{_≡_, refl}
 use mathlib.Core.Bool.{Bool, true, false, cond, not, _&&_, _||_}
-use mathlib.Core.List.{List, [], _∷_, _++_}
-use mathlib.Core.Option.{Option}
+use mathlib.Core.List.{List, [], _∷_}
 use native.Mathlib.Omega.{arith}
 use lib.Dec.{eqb}
 use lib.ListN.{length, getD}
 use lib.Seq.{getD-set-same, getD-set-other}
 use Rattle.records.specs.declared.events.Event.{Event}
 use Rattle.records.specs.declared.messages.Message.{Message}
-use Rattle.records.specs.Tables.{Read, taken, read}
-use Rattle.records.specs.Events.{events}
 use Rattle.callcontrol.specs.declared.call.State.{State}
 use Rattle.callcontrol.specs.declared.call.Path.{Path}
 use Rattle.callcontrol.specs.declared.call.Call.{Call}
-use Rattle.callcontrol.specs.declared.draft.Slot.{Slot}
 use Rattle.callcontrol.specs.Call.{T301, T302, T303, T306, T308, T310, T311}
 use Rattle.callcontrol.specs.Draft.{Draft}
 use Rattle.callcontrol.specs.Draft.{_▷_, draft, noRow, go, onPath, storeMode, storeAsked, storeCode, storeSlots, start, stop, restart, samePlane, plane, off, grant, grantOrOff, tell, tellModified}
 use Rattle.callcontrol.specs.Rows
-use Rattle.callcontrol.specs.Writing.{when, held, byNumber, starting, messagesIn}
+use Rattle.callcontrol.specs.Writing.{starting, messagesIn}
 use Rattle.callcontrol.proofs.Verbs.{verbs}
-use Rattle.demands.specs.Runs.{Turn, outcome, next, eventIn, takenBy, messagesOf, writtenBy, writtenIn, every?}
+use Rattle.demands.specs.Runs.{Turn, next, writtenBy, writtenIn}
 use Rattle.demands.specs.Demands.{limits, StartsWithLimit}
-use Rattle.demands.proofs.Facts.{apart, and, left, right, either}
+use Rattle.demands.proofs.Facts.{apart, either}
 use Rattle.demands.proofs.Cases.{by-grant}
 use Rattle.demands.proofs.ByRow.{Row, Cell, cell, row, no-row}
+use Rattle.demands.proofs.Writes.{All, OfSlot, both, by-number, writes, turn-writes}
 
 -- ---- drafts that start T310 with a limit alone
 
-abbrev OfSlot : Slot → Type 0
-OfSlot Slot.Empty = Unit {0}
-OfSlot (Slot.Holds m) = limits m ≡ true
-
 record Limited (x : Draft) : Type 0 where
-  pdu : OfSlot (x .pdu)
-  user : OfSlot (x .user)
+  pdu : OfSlot limits (x .pdu)
+  user : OfSlot limits (x .user)
   start : (getD (x .starts) T310 false && eqb (x .call .code) 0) ≡ false
 
 not-both : (b : Bool) → (not b && b) ≡ false
@@ -165,65 +158,27 @@ limited (Row.unanswered n z) = record { pdu = tt; user = refl; start = refl }
 
 -- ---- what a row writes
 
-record All (ms : List Message) : Type 0 where
-  met : every? limits ms ≡ true
-
-both : (ms ns : List Message) → All ms → All ns → All (ms ++ ns)
-both [] ns p q = q
-both (m ∷ ms) ns p q =
-    let rest : All ms = record { met = right (limits m) _ (p .met) } in
-    record { met = and _ _ (left (limits m) _ (p .met)) (both ms ns rest q .met) }
-
-whenever : (b : Bool) (m : Message) → (b ≡ true → limits m ≡ true) → All (when b m)
-whenever true m h = record { met = and _ _ (h refl) refl }
-whenever false m h = record { met = refl }
-
-holds : (s : Slot) → OfSlot s → All (held s)
-holds Slot.Empty h = record { met = refl }
-holds (Slot.Holds m) h = record { met = and _ _ h refl }
-
 other : (a b : Bool) → (a && b) ≡ false → a ≡ true → not b ≡ true
 other true b h e = rw h
 other false b h e = apart e refl
 
-by-flag : (order : ℕ → Message) (flags : List Bool) (k n : ℕ) → limits (order n) ≡ true → All (when (getD flags k false) (order n))
-by-flag order flags k n h = whenever (getD flags k false) (order n) (λ e. h)
+row-writes : (x : Draft) → Limited x → All limits (messagesIn x)
+unfolding starting limits
+row-writes x h =
+    writes limits x (by-number limits _ _ (λ e. refl) (λ e. refl) (λ e. refl) (λ e. refl) (λ e. refl) (λ e. refl) (λ e. refl)) refl (h .pdu)
+    (by-number limits _ _ (λ e. refl) (λ e. refl) (λ e. refl) (λ e. refl) (λ e. refl) (other _ (eqb (x .call .code) 0) (h .start)) (λ e. refl)) (λ e. refl) (h .user)
 
-writes : (x : Draft) → Limited x → All (messagesIn x)
-unfolding messagesIn byNumber starting limits
-writes x h =
-    both _ _
-    (both _ _ (by-flag Message.Stop (x .stops) T301 301 refl)
-    (both _ _ (by-flag Message.Stop (x .stops) T302 302 refl)
-    (both _ _ (by-flag Message.Stop (x .stops) T303 303 refl) (both _ _ (by-flag Message.Stop (x .stops) T306 306 refl) (both _ _ (by-flag Message.Stop (x .stops) T308 308 refl) (both _ _ (by-flag Message.Stop (x .stops) T310 310 refl) (by-flag Message.Stop (x .stops) T311 311 refl)))))))
-    (both _ _ (whenever (x .cancel) _ (λ e. refl))
-    (both _ _ (holds (x .pdu) (h .pdu))
-    (both _ _
-    (both _ _ (by-flag (starting (x .call .code)) (x .starts) T301 301 refl)
-    (both _ _ (by-flag (starting (x .call .code)) (x .starts) T302 302 refl)
-    (both _ _ (by-flag (starting (x .call .code)) (x .starts) T303 303 refl)
-    (both _ _ (by-flag (starting (x .call .code)) (x .starts) T306 306 refl)
-    (both _ _ (by-flag (starting (x .call .code)) (x .starts) T308 308 refl)
-    (both _ _ (whenever (getD (x .starts) T310 false) _ (other _ (eqb (x .call .code) 0) (h .start))) (by-flag (starting (x .call .code)) (x .starts) T311 311 refl)))))))
-    (both _ _ (whenever (not (eqb (x .configure) 0)) _ (λ e. refl)) (holds (x .user) (h .user))))))
-
-turn-limited : (c : Call) (t : Turn) → All (writtenBy c t)
-unfolding writtenBy takenBy
-turn-limited c t = by-answer (eqb (outcome c t .answer) 0) (read events (t .event))
+turn-limited : (c : Call) (t : Turn) → All limits (writtenBy c t)
+turn-limited c t = turn-writes limits c t (λ e h. by-cell (cell c e))
   where
-    by-cell : {e : Event} {x : Draft} → Cell c (c .state) (c .path) e x → All (messagesIn x)
-    by-cell no-row = writes _ (refused c)
-    by-cell (row r) = writes _ (limited r)
+    by-cell : {e : Event} {x : Draft} → Cell c (c .state) (c .path) e x → All limits (messagesIn x)
+    by-cell no-row = row-writes _ (refused c)
+    by-cell (row r) = row-writes _ (limited r)
 
-    by-answer : (b : Bool) (r : Read Event) → All (messagesOf c (cond b (eventIn r) Option.none))
-    by-answer true (taken e) = by-cell (cell c e)
-    by-answer true (Read.refused n place) = record { met = refl }
-    by-answer false r = record { met = refl }
-
-run-limited : (c : Call) (ts : List Turn) → All (writtenIn c ts)
+run-limited : (c : Call) (ts : List Turn) → All limits (writtenIn c ts)
 unfolding writtenIn
 run-limited c [] = record { met = refl }
-run-limited c (t ∷ ts) = both _ _ (turn-limited c t) (run-limited (next c t) ts)
+run-limited c (t ∷ ts) = both limits _ _ (turn-limited c t) (run-limited (next c t) ts)
 
 pub starts-with-limit : StartsWithLimit
 starts-with-limit c ts = run-limited c ts .met
