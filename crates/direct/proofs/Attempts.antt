@@ -23,11 +23,11 @@ use Rattle.direct.specs.Call.{freshCall, stateNumber, sound}
 use Rattle.direct.specs.Draft.{Draft, messagesIn}
 use Rattle.direct.specs.Rows.{asked, awaited, givenUp, connected, released, again, exhausted, rowFor}
 use Rattle.direct.specs.Step.{beyond}
-use Rattle.direct.specs.Runs.{Turn, next, run, takenBy, writtenBy, writtenIn, isIdle, isCheck, count, isDmSetupPres}
+use Rattle.direct.specs.Runs.{Turn, next, run, takenBy, writtenBy, writtenIn, isIdle, count, isDmSetupPres}
 use Rattle.direct.specs.Demands.{Kept, oneCall, AtMostLimit, OnlyInCalls, expected, Waits, over, wait, turnsLeft, BackToIdle, AtMostTwice, AsOftenAsLimit}
 use Rattle.direct.proofs.Situations.{sound-in, row-reporting, row-waiting}
 use Rattle.direct.proofs.Turns.{apart, Accepted, Passed, Turned, passed, took, turned, accepts, taking, Which, asks, awaits, gives-up, connects, rejects, disconnects, retries, exhausts, row-of}
-use Rattle.direct.proofs.Kept.{is-not, Limits, limits, reached, turn-keeps, check-limits, idle-fresh, idle-is, request-limits}
+use Rattle.direct.proofs.Kept.{is-not, Limits, limits, reached, turn-keeps, check-limits, idle-fresh, idle-is, check-is, request-limits}
 use Rattle.direct.proofs.Timers.{due-303}
 
 -- ---- how many
@@ -173,14 +173,6 @@ only-in-calls ts t idle stays = by (turned (run freshCall ts) t)
     by (took e a) = row (row-of a) (a .leaves)
 
 -- ---- a call that nobody answers
-
-check-is : (c : Call) → isCheck c ≡ true → c .state ≡ State.PresenceCheck
-check-is c h = by (c .state) h
-  where
-    by : (s : State) → eqb (stateNumber s) 1 ≡ true → s ≡ State.PresenceCheck
-    by State.Idle h = apart h refl
-    by State.PresenceCheck h = refl
-    by State.Active h = apart h refl
 
 -- what is left of it
 pub record Ends (c : Call) (us : List Turn) : Type 0 where

@@ -7,7 +7,7 @@ use borrow.Author.Tests.{le-leb}
 use Rattle.records.specs.Letters.{within}
 use Rattle.records.specs.Bytes.{bytes}
 use Rattle.records.specs.Bodies.{allFit, flatFits, bodyBytes, flatSize, flatBytes}
-use Rattle.records.specs.Tables.{read, taken, fine}
+use Rattle.records.specs.Tables.{Table, read, taken, fine}
 use Rattle.records.specs.Laws as laws
 use Rattle.records.proofs.RoundTrip as round
 use Rattle.records.proofs.Places as places
@@ -134,6 +134,12 @@ due-expiry = Timers.due-expiry
 pub due-answer : claims.DueAnswer
 due-answer = Timers.due-answers
 
+pub due-report : claims.DueReport
+due-report = Timers.due-report
+
+pub report-elsewhere : claims.ReportElsewhere
+report-elsewhere = Timers.report-elsewhere
+
 -- ---- what the user is told
 
 pub one-indication : claims.OneIndication
@@ -153,38 +159,16 @@ outside-releases = Told.outside-releases
 
 -- ---- records' laws of any table, for direct mode's two
 
-pub event-written-reads-back : laws.WrittenReadsBack events
-event-written-reads-back = round.written-reads-back events event-lawful
+module _ (t : Table) (ok : laws.Lawful t) where
+  round-trips : claims.RoundTrips t
+  round-trips = (
+    round.written-reads-back t ok,
+    round.writer-reads-back t ok,
+    round.read-is-written-back t ok,
+    round.read-writes-back t ok,
+    places.place-is-wrong t ok,
+    places.wrong-has-place t ok,
+  )
 
-pub event-writer-reads-back : laws.WriterReadsBack events
-event-writer-reads-back = round.writer-reads-back events event-lawful
-
-pub event-read-is-written-back : laws.ReadIsWrittenBack events
-event-read-is-written-back = round.read-is-written-back events event-lawful
-
-pub event-read-writes-back : laws.ReadWritesBack events
-event-read-writes-back = round.read-writes-back events event-lawful
-
-pub event-place-is-wrong : laws.PlaceIsWrong events
-event-place-is-wrong = places.place-is-wrong events event-lawful
-
-pub event-wrong-has-place : laws.WrongHasPlace events
-event-wrong-has-place = places.wrong-has-place events event-lawful
-
-pub message-written-reads-back : laws.WrittenReadsBack messages
-message-written-reads-back = round.written-reads-back messages message-lawful
-
-pub message-writer-reads-back : laws.WriterReadsBack messages
-message-writer-reads-back = round.writer-reads-back messages message-lawful
-
-pub message-read-is-written-back : laws.ReadIsWrittenBack messages
-message-read-is-written-back = round.read-is-written-back messages message-lawful
-
-pub message-read-writes-back : laws.ReadWritesBack messages
-message-read-writes-back = round.read-writes-back messages message-lawful
-
-pub message-place-is-wrong : laws.PlaceIsWrong messages
-message-place-is-wrong = places.place-is-wrong messages message-lawful
-
-pub message-wrong-has-place : laws.WrongHasPlace messages
-message-wrong-has-place = places.wrong-has-place messages message-lawful
+pub both-round-trip : claims.BothRoundTrip
+both-round-trip = (round-trips events event-lawful, round-trips messages message-lawful)

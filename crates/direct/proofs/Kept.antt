@@ -19,7 +19,7 @@ use Rattle.direct.specs.Call.{freshCall, stateNumber, asFresh, inLimits,
 use Rattle.direct.specs.Draft.{Draft}
 use Rattle.direct.specs.Rows.{asked, awaited, givenUp, connected, released, again, exhausted, acceptable, rowFor}
 use Rattle.direct.specs.Step.{beyond}
-use Rattle.direct.specs.Runs.{Turn, next, run, isIdle}
+use Rattle.direct.specs.Runs.{Turn, next, run, isIdle, isCheck}
 use Rattle.direct.specs.Demands.{Kept, FreshIsSound, StepKeepsSound, Sound, NeverUnsound, IdleIsFresh}
 use Rattle.direct.proofs.Situations.{sound-in}
 use Rattle.direct.proofs.Turns.{apart, event-fine, Accepted, Passed, Turned, passed, took, turned, Which, asks, awaits, gives-up, connects, rejects, disconnects, retries, exhausts, row-of}
@@ -88,6 +88,14 @@ idle-is c h = by (c .state) h
     by : (s : State) → eqb (stateNumber s) 0 ≡ true → s ≡ State.Idle
     by State.Idle h = refl
     by State.PresenceCheck h = apart h refl
+    by State.Active h = apart h refl
+
+pub check-is : (c : Call) → isCheck c ≡ true → c .state ≡ State.PresenceCheck
+check-is c h = by (c .state) h
+  where
+    by : (s : State) → eqb (stateNumber s) 1 ≡ true → s ≡ State.PresenceCheck
+    by State.Idle h = apart h refl
+    by State.PresenceCheck h = refl
     by State.Active h = apart h refl
 
 -- ---- the rows

@@ -19,15 +19,15 @@ use Rattle.direct.specs.declared.call.State.{State}
 use Rattle.direct.specs.declared.call.Call.{Call}
 use Rattle.direct.specs.Events.{events}
 use Rattle.direct.specs.Messages.{messageSize, sizesOf}
-use Rattle.direct.specs.Call.{freshCall, inLimits, sound}
+use Rattle.direct.specs.Call.{freshCall, stateNumber, inLimits, sound}
 use Rattle.direct.specs.Draft.{Draft, messagesIn, noRow}
 use Rattle.direct.specs.Rows.{asked, awaited, givenUp, connected, released, again, exhausted, acceptable, idle, reporting, waiting, inState, rowFor}
 use Rattle.direct.specs.Step.{refusal, beyond}
-use Rattle.direct.specs.Runs.{Turn, outcome, next, run, takenBy, writtenBy, isIdle, isAnswer, isStop, count, Entry, logIn, noteMessage, noteMessages, noteTaken, noteLog, runsBy}
-use Rattle.direct.specs.Demands.{Kept, TimersByMessages, NoneInIdle, StopsRunning, isLate, Late, DueExpiry, DueAnswer}
+use Rattle.direct.specs.Runs.{Turn, outcome, next, run, takenBy, writtenBy, isIdle, isCheck, isAnswer, isStop, count, Entry, logIn, noteMessage, noteMessages, noteTaken, noteLog, runsBy}
+use Rattle.direct.specs.Demands.{Kept, TimersByMessages, NoneInIdle, StopsRunning, isLate, Late, DueExpiry, DueAnswer, DueReport, ReportElsewhere}
 use Rattle.direct.proofs.Situations.{sound-in, row-in, row-waiting, row-reporting}
 use Rattle.direct.proofs.Turns.{apart, Accepted, Passed, Turned, passed, took, turned, no-row, taking, Which, asks, awaits, gives-up, connects, rejects, disconnects, retries, exhausts, row-of}
-use Rattle.direct.proofs.Kept.{fresh-kept, reached, turn-keeps, is-not, check-311, idle-fresh, idle-is}
+use Rattle.direct.proofs.Kept.{fresh-kept, reached, turn-keeps, is-not, check-311, idle-fresh, idle-is, check-is}
 
 -- ---- one turn
 
@@ -194,3 +194,32 @@ due-expiry ts t reads runs room = due-303 (run freshCall ts) t (reached ts .meet
 
 pub due-answers : DueAnswer
 due-answers ts t e reads a runs room = due-answer (run freshCall ts) t (reached ts .meets) (sym (timers-by-messages ts .0) ∙ runs) e reads a room
+
+module _ (c : Call) (t : Turn) (ok : sound c ≡ true) (v : ℕ) (reads : read events (t .event) ≡ taken (DmaReport v)) where
+  report-row : {d : Draft} → c .state ≡ State.PresenceCheck → c .dt303 ≡ false → reporting c (DmaReport v) ≡ d → d .taken ≡ true → sizesOf (messagesIn d) ≤ length (t .buffer) → takenBy c t ≡ some (DmaReport v)
+  report-row here off is row room =
+      let same = row-reporting c (DmaReport v) here off ∙ is in
+      taking c t (DmaReport v) ok reads refl (ap (λ (x : Draft). x .taken) same ∙ row) (rw same room)
+
+  report-taken : c .state ≡ State.PresenceCheck → c .dt303 ≡ false → 6 ≤ length (t .buffer) → takenBy c t ≡ some (DmaReport v)
+  unfolding awaited givenUp sizesOf messageSize flatSize
+  report-taken here off room = by (eqb v 0) refl
+    where
+      by : (b : Bool) → eqb v 0 ≡ b → takenBy c t ≡ some (DmaReport v)
+      by true h = report-row {d = awaited c} here off (rw h) refl room
+      by false h = report-row {d = givenUp c} here off (rw h) refl (omega arith)
+
+  report-refused : isCheck c ≡ false → outcome c t ≡ refusal 61 c (t .buffer)
+  report-refused elsewhere = no-row c t (DmaReport v) ok reads refl (by (c .state) refl)
+    where
+      by : (s : State) → c .state ≡ s → rowFor c (DmaReport v) .taken ≡ false
+      by State.Idle st = ap (λ (x : Draft). x .taken) (row-in c (DmaReport v) State.Idle st)
+      by State.PresenceCheck st = apart (ap (λ (x : State). eqb (stateNumber x) 1) st) elsewhere
+      by State.Active st = ap (λ (x : Draft). x .taken) (row-in c (DmaReport v) State.Active st)
+
+pub due-report : DueReport
+due-report ts t v reads here off room =
+    report-taken (run freshCall ts) t (reached ts .meets) v reads (check-is (run freshCall ts) here) (sym (timers-by-messages ts .0) ∙ off) room
+
+pub report-elsewhere : ReportElsewhere
+report-elsewhere ts t v reads elsewhere = report-refused (run freshCall ts) t (reached ts .meets) v reads elsewhere

@@ -10,7 +10,7 @@ use lib.Seq.{sets}
 use Rattle.records.specs.Bytes.{number}
 use Rattle.records.specs.Bodies.{size, numbersAt, allFit}
 use Rattle.records.specs.Tables.{Table, Read, taken, refused, listed, known, find, read, fine}
-use Rattle.records.specs.Laws.{missing, numbers, NoneShared}
+use Rattle.records.specs.Laws.{missing, numbers, NoneShared, WrittenReadsBack, WriterReadsBack, ReadIsWrittenBack, ReadWritesBack, PlaceIsWrong, WrongHasPlace}
 use Rattle.records.specs.Events as document01
 use Rattle.records.specs.Messages as document01m
 use Rattle.direct.specs.declared.events.Event.{Event}
@@ -163,6 +163,14 @@ ReadsBack =
     (ts : List Turn) (t : Turn) →
     Reads (take (outcome (run freshCall ts) t .count) (outcome (run freshCall ts) t .buffer)) (writtenBy (run freshCall ts) t)
 
+-- both tables round-trip, both ways, and 4 has the place of the first field that is wrong
+abbrev pub RoundTrips : Table → Type 0
+RoundTrips t =
+    WrittenReadsBack t × WriterReadsBack t × ReadIsWrittenBack t × ReadWritesBack t × PlaceIsWrong t × WrongHasPlace t
+
+abbrev pub BothRoundTrip : Type 0
+BothRoundTrip = RoundTrips events × RoundTrips messages
+
 -- no kind of one table has a number that the other has retired
 abbrev pub NoneRetired : Table → Table → Type 0
 NoneRetired t u = (k : t .Kind) → listed (t .rowOf k .number) (u .retired) ≡ false
@@ -286,6 +294,21 @@ DueAnswer =
     (ts : List Turn) (t : Turn) (e : Event) →
     read events (t .event) ≡ taken e → isAnswer e ≡ true →
     runsBy (logIn freshCall ts) 303 ≡ true → 27 ≤ length (t .buffer) → takenBy (run freshCall ts) t ≡ some e
+
+-- a report in PRESENCE CHECK is taken while DT303 does not run, where 6 are
+abbrev pub DueReport : Type 0
+DueReport =
+    (ts : List Turn) (t : Turn) (v : ℕ) →
+    read events (t .event) ≡ taken (DmaReport v) →
+    isCheck (run freshCall ts) ≡ true → runsBy (logIn freshCall ts) 303 ≡ false → 6 ≤ length (t .buffer) →
+    takenBy (run freshCall ts) t ≡ some (DmaReport v)
+
+-- and elsewhere it is refused with 61 and changes nothing
+abbrev pub ReportElsewhere : Type 0
+ReportElsewhere =
+    (ts : List Turn) (t : Turn) (v : ℕ) →
+    read events (t .event) ≡ taken (DmaReport v) →
+    isCheck (run freshCall ts) ≡ false → outcome (run freshCall ts) t ≡ refusal 61 (run freshCall ts) (t .buffer)
 
 -- What the user is told
 
