@@ -1,5 +1,5 @@
-//! The C header can be included as strict C11 and as strict C++17, and its numbers are the
-//! library's.
+//! The C header can be included as strict C11 and as strict C++17, every name in it is used, and
+//! its numbers are the library's.
 
 use callcontrol_tests::account::boundary;
 use callcontrol_tests::histories::root;
@@ -10,6 +10,8 @@ use std::collections::BTreeSet;
 use std::fs;
 use std::ops::RangeInclusive;
 use std::path::Path;
+use std::process::Stdio;
+use std::thread;
 
 const STRICT: [&str; 5] = ["-Wall", "-Wextra", "-Wpedantic", "-Werror", "-Wconversion"];
 
@@ -33,9 +35,93 @@ fn the_header_is_strict_cpp17() {
     builds_and_runs(CXX, &["-x", "c++", "-std=c++17"], "uses_header_cpp17");
 }
 
+fn the_header() -> String {
+    fs::read_to_string(root().join("include/callcontrol.h")).expect("the header")
+}
+
+/// The words of a C source outside its comments.
+fn words(source: &str) -> BTreeSet<String> {
+    let code = source.split("/*").map(|part| part.split_once("*/").map_or(part, |(_, code)| code));
+    let apart = |char: char| !char.is_alphanumeric() && char != '_';
+    code.flat_map(|code| code.split(apart)).map(str::to_owned).collect()
+}
+
+/// All that `tests/c/uses_header.c` leaves out of what the header declares is the header's guard.
+#[test]
+fn every_name_of_the_header_is_used() {
+    let is_ours = |word: &&String| word.to_lowercase().starts_with("callcontrol_");
+    let source = fs::read_to_string(root().join("tests/c/uses_header.c")).expect("the source");
+    let (declared, used) = (words(&the_header()), words(&source));
+    let declared: BTreeSet<&String> = declared.iter().filter(is_ours).collect();
+    assert!(declared.len() > 250, "only {} names were found", declared.len());
+    let unused: Vec<_> = declared.into_iter().filter(|&name| !used.contains(name)).collect();
+    assert_eq!(unused, ["CALLCONTROL_H"]);
+}
+
+/// The header with each number an expression: one more than it says for the name whose turn the
+/// environment says that it is. With the names in the order of their turns.
+fn with_expressions() -> (String, Vec<String>) {
+    let (mut header, mut behind, mut names) = (String::new(), String::new(), Vec::new());
+    for line in the_header().lines() {
+        let constant =
+            line.strip_prefix("#define CALLCONTROL_").and_then(|rest| rest.split_once(' '));
+        let enumerator = line.trim_start().strip_prefix("CALLCONTROL_");
+        let enumerator = enumerator.and_then(|rest| rest.split_once(" = "));
+        let Some((name, value)) = constant.or(enumerator) else {
+            header += &format!("{line}\n");
+            if line == "#define CALLCONTROL_H" {
+                header += "#include <stdlib.h>\nstatic int is_wrong(int turn)\n{\n    \
+                           const char *wrong = getenv(\"WRONG\");\n    \
+                           return wrong != NULL && atoi(wrong) == turn;\n}\n";
+            }
+            continue;
+        };
+        let value = value.trim().split([',', ' ']).next().expect("a number");
+        behind += &format!("#define CALLCONTROL_{name} ({value} + is_wrong({}))\n", names.len());
+        if enumerator.is_some() {
+            header += &line.replacen("CALLCONTROL_", "RIGHT_", 1);
+            header += "\n";
+        }
+        names.push(format!("CALLCONTROL_{name}"));
+    }
+    let end = header.rfind("#endif").expect("the end of the guard");
+    header.insert_str(end, &behind);
+    (header, names)
+}
+
+/// `tests/c/uses_header.c` fails for a wrong number, whatever name has it.
+#[test]
+fn a_wrong_number_of_any_name_is_noticed() {
+    let folder = Path::new(env!("CARGO_TARGET_TMPDIR")).join("wrong_numbers");
+    fs::create_dir_all(&folder).expect("a folder");
+    let (header, names) = with_expressions();
+    assert!(names.len() > 200, "only {} numbers were found", names.len());
+    fs::write(folder.join("callcontrol.h"), header).expect("a header is written");
+    let program = folder.join("uses_header");
+    let include = format!("-I{}", folder.display());
+    // An array whose size is an expression is none of strict C11's.
+    build(CC, &["-std=gnu11", "-w", &include], "tests/c/uses_header.c", &program);
+    let succeeds = |wrong: usize| {
+        let mut program = run(&program);
+        let ran = program.env("WRONG", wrong.to_string()).stderr(Stdio::null()).status();
+        ran.expect("what was built can be run").success()
+    };
+    assert!(succeeds(names.len()), "with every number right it succeeds");
+    let turns: Vec<usize> = (0..names.len()).collect();
+    let unnoticed: Vec<&String> = thread::scope(|scope| {
+        let each = turns.chunks(names.len().div_ceil(4)).map(|part| {
+            scope.spawn(|| part.iter().filter(|&&wrong| succeeds(wrong)).collect::<Vec<_>>())
+        });
+        let each: Vec<_> = each.collect();
+        let unnoticed = each.into_iter().flat_map(|part| part.join().expect("it ran"));
+        unnoticed.map(|&at| &names[at]).collect()
+    });
+    assert!(unnoticed.is_empty(), "{unnoticed:?}");
+}
+
 /// Name and value of every enumerator in one enum of the header.
 fn enumerators(tag: &str) -> Vec<(String, u32)> {
-    let header = fs::read_to_string(root().join("include/callcontrol.h")).expect("the header");
+    let header = the_header();
     let start = header.find(&format!("enum {tag} {{")).unwrap_or_else(|| panic!("no enum {tag}"));
     let body = header[start..].split('}').next().expect("an end");
     body.lines()
@@ -95,7 +181,7 @@ fn the_headers_kinds_are_the_librarys_kinds() {
 
 /// The value of a `#define` of the header that is a number.
 fn defined(name: &str) -> u32 {
-    let header = fs::read_to_string(root().join("include/callcontrol.h")).expect("the header");
+    let header = the_header();
     let find = |line: &str| {
         let value = line.strip_prefix("#define ")?.strip_prefix(name)?.strip_prefix(' ')?;
         value.split_once('u').expect("an unsigned number").0.parse().ok()
