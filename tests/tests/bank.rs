@@ -9,7 +9,7 @@ use callcontrol_tests::account::{bank, Timer};
 use callcontrol_tests::generate::Random;
 use callcontrol_tests::programs::stack_used;
 use callcontrol_tests::request::{Function, Place, Request};
-use callcontrol_tests::sidebyside::{alone, tell, Queue};
+use callcontrol_tests::sidebyside::{tell, Queue};
 
 const TIMERS: [u16; 7] = [301, 302, 303, 306, 308, 310, 311];
 const WRAP: u64 = 1 << 32;
@@ -571,50 +571,64 @@ fn bytes_that_are_no_bank() {
     queue.finish();
 }
 
-/// Banks that no run gives: nothing else is touched, what is handed out ran and runs no longer, and
-/// forward or back is told as ever.
+/// Banks that no run gives, which the account's true time has no word for. By the definition's own
+/// rule: due is a running timer whose deadline is not after the reading by the sign of the wrapped
+/// difference, and the one that is late by more goes first.
 #[test]
 fn a_bank_that_the_host_has_spoiled() {
     let mut random = Random::new(0x5901);
-    let mut accepted = 0;
-    for _ in 0..200_000 {
+    let mut queue = Queue::new();
+    let (mut accepted, mut short, mut not_by_time) = (0, 0, 0);
+    for round in 0..200_000 {
         let mut bytes: Vec<u8> = (0..32).map(|_| random.byte()).collect();
         bytes.extend([(); 7].map(|()| u8::from(random.flip())));
-        let last = u32::from_le_bytes([bytes[0], bytes[1], bytes[2], bytes[3]]);
-        let reading = last.wrapping_add((random.word() >> 32) as u32);
-        let list = random.below(9);
-        let places = [(); 3].map(|()| random.pick(&[Place::Between, Place::AtStart, Place::AtEnd]));
-        let filler = random.byte();
-        let request = Request::of(Function::BankAdvance, &bytes, &[], 2 * list, filler)
-            .with(reading)
-            .at(places);
-        let done = alone(&request);
-        let (answer, count) = (done.word >> 24, (done.word & 0xFF_FFFF) as usize);
-        if reading.wrapping_sub(last) >= 1 << 31 {
-            assert_eq!(answer, 32);
-            continue;
-        }
-        if answer == 33 {
-            assert!(list < 7);
-            continue;
-        }
-        assert_eq!(answer, 0);
-        accepted += 1;
-        let mut after = bytes.clone();
-        after[..4].copy_from_slice(&reading.to_le_bytes());
-        for (at, pair) in done.out.chunks_exact(2).enumerate() {
-            let number = u16::from_le_bytes([pair[0], pair[1]]);
-            if at < count {
-                let flag = &mut after[32 + place_of(number)];
-                assert_eq!(*flag, 1, "T{number} ran, and is handed out once");
-                *flag = 0;
-            } else {
-                assert_eq!(*pair, [filler; 2], "behind the count");
+        let number = |bytes: &[u8], at: usize| {
+            u32::from_le_bytes([bytes[at], bytes[at + 1], bytes[at + 2], bytes[at + 3]])
+        };
+        let last = number(&bytes, 0);
+        let reading = last.wrapping_add((random.word() >> 32) as u32 >> random.below(2));
+        // Deadlines at both edges of due, and equal ones.
+        for timer in 0..7 {
+            if round % 2 == 0 {
+                let ahead = random.pick(&[0, 1, u32::MAX, 1 << 31, (1 << 31) - 1, (1 << 31) + 1]);
+                let deadline = reading.wrapping_add(ahead);
+                bytes[4 + 4 * timer..][..4].copy_from_slice(&deadline.to_le_bytes());
             }
         }
-        assert_eq!(done.record, after);
+        let late = |timer: usize| reading.wrapping_sub(number(&bytes, 4 + 4 * timer)) as i32;
+        let mut due: Vec<usize> =
+            (0..7).filter(|&timer| bytes[32 + timer] == 1 && late(timer) >= 0).collect();
+        // A sort that keeps the order of equal ones.
+        due.sort_by_key(|&timer| -late(timer));
+
+        let list = random.below(9);
+        let places = [(); 3].map(|()| random.pick(&[Place::Between, Place::AtStart, Place::AtEnd]));
+        let request = Request::of(Function::BankAdvance, &bytes, &[], 2 * list, random.byte())
+            .with(reading)
+            .at(places);
+        let said = queue.check(&request, |bank, _, out| {
+            if reading.wrapping_sub(last) as i32 >= 0 && due.len() <= list {
+                bank[..4].copy_from_slice(&reading.to_le_bytes());
+                for (&timer, place) in due.iter().zip(out.chunks_exact_mut(2)) {
+                    bank[32 + timer] = 0;
+                    place.copy_from_slice(&TIMERS[timer].to_le_bytes());
+                }
+                due.len() as u32
+            } else if (reading.wrapping_sub(last) as i32) < 0 {
+                32 << 24
+            } else {
+                33 << 24
+            }
+        });
+        accepted += u32::from(said.answer == 0);
+        short += u32::from(said.answer == 33);
+        let time =
+            Bank::unpack(&bytes).and_then(|mut bank| bank.advance(reading, &mut [0; 7]).ok());
+        not_by_time += u32::from(said.answer == 0 && time != Some(due.len()));
     }
-    assert!(accepted > 10_000);
+    queue.finish();
+    assert!(accepted > 10_000 && short > 10_000, "{accepted} accepted, {short} lists too short");
+    assert!(not_by_time > 10_000, "{not_by_time} that true time tells otherwise");
 }
 
 #[test]

@@ -81,6 +81,59 @@ fn every_record_that_the_alphabet_reaches() {
     assert!(reached.len() > 150, "only {} records", reached.len());
 }
 
+/// Every byte in each field of records of every state, and every two bytes in the fields that the
+/// rules compare: those that are not sound are answer 1, and the others step as the account says.
+#[test]
+fn every_byte_in_every_field() {
+    let mut queue = Queue::new();
+    let records = [
+        [0; RECORD_LEN],
+        [1, 9, 4, 3, 1, 0, 0],
+        [1, 9, 4, 3, 3, 1, 0],
+        [1, 255, 255, 15, 15, 1, 0],
+        [2, 9, 4, 3, 2, 0, 1],
+    ];
+    let events = [
+        event(0x0801, &[9, 4, 3]),
+        event(0x0802, &[0]),
+        event(0x0802, &[1]),
+        event(0x0803, &[5]),
+        event(0x0804, &[]),
+        event(0x0805, &303u16.to_le_bytes()),
+    ];
+    let mut sound = BTreeSet::new();
+    let mut expect = |record: &[u8; RECORD_LEN]| {
+        for event in &events {
+            if step(&mut queue, record, event, STEP_MAX).0 != 1 {
+                sound.insert(*record);
+            }
+        }
+    };
+    for record in records {
+        for field in 0..RECORD_LEN {
+            for byte in 0..=255 {
+                let mut spoiled = record;
+                spoiled[field] = byte;
+                expect(&spoiled);
+            }
+        }
+    }
+    // Target and lowest; limit and used.
+    for pair in [1, 3] {
+        for bytes in 0..=0xFFFFu16 {
+            let mut spoiled = records[2];
+            spoiled[pair..pair + 2].copy_from_slice(&bytes.to_le_bytes());
+            expect(&spoiled);
+        }
+    }
+    queue.finish();
+    // Of the pairs alone: lowest to target, and 1 to limit for each limit of 1 to 15.
+    let alike = |record: &&[u8; RECORD_LEN]| record[5..] == [1, 0] && record[0] == 1;
+    let graded = sound.iter().filter(alike).filter(|record| record[3..5] == [3, 3]).count();
+    let limited = sound.iter().filter(alike).filter(|record| record[1..3] == [9, 4]).count();
+    assert_eq!((graded, limited), (256 * 257 / 2, 15 * 16 / 2));
+}
+
 /// A generator of numbers that does not repeat within any test: SplitMix64.
 struct Numbers(u64);
 

@@ -7,7 +7,7 @@ use callcontrol_tests::account::pieces::{self, Reader};
 use callcontrol_tests::generate::{event, Bytes, Random};
 use callcontrol_tests::programs::stack_used;
 use callcontrol_tests::request::{Function, Place, Request};
-use callcontrol_tests::sidebyside::{alone, tell, Queue};
+use callcontrol_tests::sidebyside::{tell, Queue};
 
 /// The records at the front of an input, the bytes behind them, and whether their length can't be
 /// passed over, in which case nothing is carried.
@@ -504,27 +504,33 @@ fn a_call_uses_less_than_512_bytes_of_stack() {
     assert!((8..512).contains(&bytes), "{bytes} bytes of stack");
 }
 
-/// Carries that no run leaves, since the host wrote to them: the library still touches nothing else,
-/// hands on no more than it was lent, and gives a reader back.
+/// Carries that no run leaves, since the host wrote to them: library and account still agree, and a
+/// length that is not above the bytes carried is impossible, also with an empty piece.
 #[test]
 fn a_carry_that_the_host_has_spoiled() {
     let mut random = Random::new(0x5901);
-    let mut handed_on = 0;
+    let mut queue = Queue::new();
+    let (mut handed_on, mut within) = (0, 0);
     for _ in 0..200_000 {
         let carried = random.below(64) as u8;
         let mut carry: Vec<u8> = (0..64 + random.below(3)).map(|_| random.byte()).collect();
         carry[0] = random.below(80) as u8;
         carry[1] = random.pick(&[0, 0, 0, 1]);
-        let piece: Vec<u8> = (0..random.below(80)).map(|_| random.below(70) as u8).collect();
+        let piece = if random.one_in(4) { 0 } else { random.below(80) };
+        let piece: Vec<u8> = (0..piece).map(|_| random.below(70) as u8).collect();
         let places = [(); 3].map(|()| random.pick(&[Place::Between, Place::AtStart, Place::AtEnd]));
         let reader = [carried, 0];
         let request =
             Request::of(Function::PiecesNext, &reader, &piece, carry.len(), random.byte())
                 .holding(&carry)
                 .at(places);
-        let done = alone(&request);
-        let [used, size, place, answer] = done.word.to_le_bytes();
-        let after = Reader::unpack(&done.record).expect("a reader is given back");
+        let said = queue.check(&request, |reader, piece, carry| pieces::next(reader, carry, piece));
+        let [used, size, place, answer] = said.word.to_le_bytes();
+        let after = Reader::unpack(said.record).expect("a reader is given back");
+        if carry[1] == 0 && carried >= 2 && (4..=carried).contains(&carry[0]) {
+            assert_eq!(answer, 20, "{carried} carried of a record of {}", carry[0]);
+            within += 1;
+        }
         match (answer, place) {
             (0, 0) => assert_eq!(size, 0),
             (0, 1) => assert!((4..=64).contains(&size) && after == Reader::FRESH),
@@ -537,5 +543,6 @@ fn a_carry_that_the_host_has_spoiled() {
         assert!(used as usize <= piece.len());
         handed_on += u32::from(answer == 0 && place != 0);
     }
-    assert!(handed_on > 0);
+    queue.finish();
+    assert!(handed_on > 10_000 && within > 10_000, "{handed_on} handed on, {within} impossible");
 }

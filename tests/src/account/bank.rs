@@ -102,7 +102,8 @@ impl Bank {
     }
 
     /// The bank in these bytes; none if they are no bank. Its time begins with the last reading, far
-    /// enough from 0 for deadlines of the past.
+    /// enough from 0 for deadlines of the past. True only of banks that a run gives, whose deadlines
+    /// lie within 2^31 ms of the last reading.
     pub fn unpack(bytes: &[u8]) -> Option<Bank> {
         let bytes: &[u8; BANK_LEN] = bytes.try_into().ok()?;
         let number = |at: usize| {

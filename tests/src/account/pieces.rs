@@ -57,13 +57,15 @@ impl Reader {
         }
         let carried = self.carried;
         let all = carried + piece.len();
-        if piece.is_empty() || all < 2 {
+        if all < 2 {
             return Ok((Found::Nothing, self.carry_on(carry, piece)));
         }
 
         let byte = |at: usize| if at < carried { carry[at] } else { piece[at - carried] };
         let len = u16::from_le_bytes([byte(0), byte(1)]) as usize;
-        if !(SHORTEST..=LONGEST).contains(&len) {
+        // A record that what is carried already holds would have been handed on before, so a length
+        // that says so is another's writing in the carry.
+        if !(SHORTEST..=LONGEST).contains(&len) || len <= carried {
             *self = Reader { carried: 0, stopped: true };
             return Err(Refusal::Length);
         }
@@ -73,8 +75,7 @@ impl Reader {
         if carried == 0 {
             return Ok((Found::InPiece(len), len));
         }
-        // What is carried is shorter than its record, or it would have been handed on before.
-        let used = self.carry_on(carry, &piece[..len.saturating_sub(carried)]);
+        let used = self.carry_on(carry, &piece[..len - carried]);
         self.carried = 0;
         Ok((Found::InCarry(len), used))
     }
