@@ -174,6 +174,32 @@ fn a_page_for_each_call() {
     }
 }
 
+/// Pages of a longer file that was drawn before do not stay; what only has the name of a page does.
+#[test]
+fn pages_of_an_earlier_file_are_removed() {
+    let folder = temporary("pages_again");
+    let _ = fs::remove_dir_all(&folder);
+    fs::create_dir_all(&folder).expect("a folder can be made");
+    let options = Options { svg: Some(folder.join("page.svg")), hex: true, ..Options::default() };
+    // A call that the user cancels, so many times.
+    let call = "0A00 0101 07000000 00 01\n0400 0301\n";
+    let drawn = |calls: usize| {
+        text_of(call.repeat(calls).as_bytes(), &options);
+        let mut names: Vec<String> = fs::read_dir(&folder)
+            .expect("it was made")
+            .map(|entry| entry.expect("a file").file_name().to_string_lossy().into_owned())
+            .collect();
+        names.sort();
+        names
+    };
+    let first = ["page-2.svg", "page-3.svg", "page-4.svg", "page.svg"];
+    assert_eq!(drawn(4), first);
+    assert_eq!(drawn(4), first);
+    assert_eq!(drawn(2), ["page-2.svg", "page.svg"]);
+    fs::write(folder.join("page-3.svg"), "<svg>of another</svg>").expect("a file");
+    assert_eq!(drawn(0), ["page-3.svg", "page.svg"]);
+}
+
 /// Each element is closed, in order, and no sign stands bare.
 fn well_formed(svg: &str) {
     let mut open = Vec::new();

@@ -74,7 +74,8 @@ impl Charts {
         Ok(())
     }
 
-    /// The pages of the last calls; one without a call where there was none.
+    /// The pages of the last calls; one without a call where there was none. Pages of a longer file
+    /// that was drawn here before would look like calls of this one, and are removed.
     pub fn end(mut self) -> Result<(), Fault> {
         for place in 0..self.pages.len() {
             if self.pages[place].call.is_some() {
@@ -84,24 +85,37 @@ impl Charts {
         if self.written == 0 {
             self.write(0)?;
         }
+        for number in self.calls.max(1) + 1.. {
+            let path = self.page(number);
+            // A file of another's that has the name of a page stays.
+            let is_page = std::fs::read_to_string(&path).is_ok_and(|svg| {
+                svg.starts_with("<svg") && svg.contains(&format!(">Call {number}"))
+            });
+            if !is_page {
+                break;
+            }
+            std::fs::remove_file(&path).map_err(|error| Fault::Chart(path, error))?;
+        }
         Ok(())
+    }
+
+    /// The file of the call of this number.
+    fn page(&self, number: u64) -> PathBuf {
+        if number == 1 {
+            return self.path.clone();
+        }
+        let stem = self.path.file_stem().unwrap_or_default().to_string_lossy();
+        let name = match self.path.extension().map(|ending| ending.to_string_lossy()) {
+            Some(ending) => format!("{stem}-{number}.{ending}"),
+            None => format!("{stem}-{number}"),
+        };
+        self.path.with_file_name(name)
     }
 
     fn write(&mut self, place: usize) -> Result<(), Fault> {
         let page = std::mem::take(&mut self.pages[place]);
         let number = page.call.as_ref().map_or(1, |call| call.number);
-        let path = match number {
-            1 => self.path.clone(),
-            _ => {
-                let stem = self.path.file_stem().unwrap_or_default().to_string_lossy();
-                let ending = self.path.extension().map(|ending| ending.to_string_lossy());
-                let name = match ending {
-                    Some(ending) => format!("{stem}-{number}.{ending}"),
-                    None => format!("{stem}-{number}"),
-                };
-                self.path.with_file_name(name)
-            }
-        };
+        let path = self.page(number);
         let svg = page.svg(&self.title, self.console.then_some(place));
         self.written += 1;
         std::fs::write(&path, svg).map_err(|error| Fault::Chart(path, error))
