@@ -138,7 +138,7 @@ fn the_stored_input() {
     assert_eq!(calltrace(&input), expected);
 }
 
-/// An input that cannot be read is told, and counts as ended.
+/// An input that cannot be read is told, and counts as ended. What is told is the only sign.
 #[test]
 fn an_input_that_cannot_be_read() {
     let mut command = programs::calltrace();
@@ -146,6 +146,7 @@ fn an_input_that_cannot_be_read() {
     let ran = run_within(command, None, &LIMITS);
     assert_eq!(ran.stdout, "answer state plane bytes place\n");
     assert_eq!(ran.stderr, "calltrace: standard input cannot be read\n");
+    assert!(ran.status.success(), "the language has no exit status");
 }
 
 /// An output that cannot be written is told once, and ends the program, at whatever line that is.
@@ -160,6 +161,7 @@ fn an_output_that_cannot_be_written() {
         let ran = run_within(command, Some(&input), &LIMITS);
         assert_eq!(ran.stdout, "");
         assert_eq!(ran.stderr, "calltrace: standard output cannot be written\n");
+        assert!(ran.status.success(), "the language has no exit status");
     }
 }
 

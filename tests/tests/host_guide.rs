@@ -21,6 +21,7 @@ const CEASED: &str = "0600 0802 1500";
 const INFO: &str = "0900 0602 1500 01 10 00";
 const EXPIRY_302: &str = "0600 0104 2E01";
 const EXPIRY_303: &str = "0600 0104 2F01";
+const EXPIRY_306: &str = "0600 0104 3201";
 const EXPIRY_308: &str = "0600 0104 3401";
 const EXPIRY_310: &str = "0600 0104 3601";
 const EXPIRY_311: &str = "0600 0104 3701";
@@ -236,6 +237,27 @@ fn a_late_expiry_of_dt303_counts_for_the_next_call() {
     let late = [setup, sent, disconnect, setup, sent, expiry];
     let written = vec![4, 0, 0x03, 0x09, 6, 0, 0x01, 0x09, 9, 4];
     assert_eq!(direct(&late), (vec![0; 6], 2, written));
+}
+
+/// What one reading of a bank hands out together is handed in together: the expiry behind a STOP of
+/// its timer is 6 and changes nothing.
+#[test]
+fn of_two_timers_due_at_one_reading_the_second_is_harmless() {
+    let speaking = &[SETUP_REQUEST, CONNECT][..];
+    let restoring = &[SETUP_REQUEST, CONNECT, "0400 0303", "0400 0403"];
+    for (call, first, second, answer) in [
+        (speaking, EXPIRY_310, EXPIRY_311, 6),
+        (speaking, EXPIRY_311, EXPIRY_310, 0),
+        (restoring, EXPIRY_306, EXPIRY_310, 6),
+        (restoring, EXPIRY_310, EXPIRY_306, 6),
+    ] {
+        let mut host = Host::after(call);
+        assert_eq!(host.answer(first), 0);
+        let between = host.record;
+        assert_eq!(host.answer(second), answer, "{first}, {second}");
+        assert!(answer == 0 || host.record == between);
+        assert_eq!(host.state(), State::CallDisconnect);
+    }
 }
 
 #[test]
