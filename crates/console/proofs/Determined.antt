@@ -1,10 +1,12 @@
--- The promise of the console's step leaves no choice: two results that it allows are equal, and so are the buffers that they leave. So it is of the
--- step on a lent table, and the tables are equal too.
+-- The promises leave no choice: two results that a function's own `ensures` allows are equal, and so are the buffers that it leaves. `Learnt` is that `ensures` as a
+-- caller learns it, of the arguments, the result, and the parameters when it returns. The two steps on a lent table are proved by walks and have none: there both sides
+-- stand as their `ensures` has them.
 use Prim.Native.Nat.{ℕ, _<_}
 use mathlib.Core.Path.{_≡_, refl, sym, _∙_, ap}
 use mathlib.Core.List.{List, []}
 use native.Mathlib.Omega.{arith}
 use lib.Dec.{lit<}
+use denote.Ref.{now}
 use Rattle.callcontrol.specs.declared.call.Call.{Call}
 use Rattle.callcontrol.specs.declared.step.Answer.{Answer}
 use Rattle.callcontrol.specs.declared.step.Stepped.{Stepped}
@@ -12,11 +14,26 @@ use Rattle.callcontrol.specs.Call.{freshCall}
 use Rattle.callcontrol.specs.Step.{answerNumber, refusing, refusal}
 use Rattle.callcontrol.proofs.Determined as step-determined
 use Rattle.console.specs.declared.route.ConsoleAnswer.{ConsoleAnswer}
+use Rattle.console.specs.declared.route.Led.{Led}
 use Rattle.console.specs.declared.console.ConsoleStepped.{ConsoleStepped}
 use Rattle.console.specs.declared.lent.ConsoleTold.{ConsoleTold}
 use Rattle.console.specs.Route.{consoleNumber}
-use Rattle.console.specs.Console.{ConsoleOutcome, asConsole}
+use Rattle.console.specs.Console.{ConsoleOutcome, asConsole, consoleOf}
+use Rattle.console.specs.Keys.{asLead}
 use Rattle.console.specs.Lent.{asTold}
+use Rattle.console.proofs.console.console_step.Reads as console-step-promise
+use Rattle.console.proofs.console.everywhere.Reads as everywhere-promise
+use Rattle.console.proofs.console.place_step.Reads as place-step-promise
+use Rattle.console.proofs.route.console_number.Reads as console-number-promise
+use Rattle.console.proofs.route.aim_of.Reads as aim-of-promise
+use Rattle.console.proofs.route.route_of.Reads as route-of-promise
+use Rattle.console.proofs.route.lead.Reads as lead-promise
+use Rattle.console.proofs.keys.key_of.Reads as key-of-promise
+use Rattle.console.proofs.keys.keys_of.Reads as keys-of-promise
+use Rattle.console.proofs.keys.apart_by.Reads as apart-by-promise
+use Rattle.console.proofs.keys.held_by.Reads as held-by-promise
+use Rattle.console.proofs.keys.idle_by.Reads as idle-by-promise
+use Rattle.console.proofs.table.table_sound.Reads as table-sound-promise
 
 -- no two of the step's answers have one number, and none has a number of the console's own
 step-same : (a b : Answer) → answerNumber a ≡ answerNumber b → a ≡ b
@@ -64,8 +81,8 @@ same ConsoleAnswer.NoIdlePlace ConsoleAnswer.IdHeld e = absurd (omega arith)
 same ConsoleAnswer.NoIdlePlace ConsoleAnswer.IdAwaited e = absurd (omega arith)
 same ConsoleAnswer.NoIdlePlace ConsoleAnswer.NoIdlePlace e = refl
 
-pub console-step : (o : ConsoleOutcome) (r₁ r₂ : ConsoleStepped) (b₁ b₂ : List ℕ) → asConsole r₁ b₁ ≡ o → asConsole r₂ b₂ ≡ o → (r₁ ≡ r₂) × (b₁ ≡ b₂)
-console-step o r₁ r₂ b₁ b₂ e₁ e₂ =
+same-console : (o : ConsoleOutcome) (r₁ r₂ : ConsoleStepped) (b₁ b₂ : List ℕ) → asConsole r₁ b₁ ≡ o → asConsole r₂ b₂ ≡ o → (r₁ ≡ r₂) × (b₁ ≡ b₂)
+same-console o r₁ r₂ b₁ b₂ e₁ e₂ =
     let e : asConsole r₁ b₁ ≡ asConsole r₂ b₂ = e₁ ∙ sym e₂ in
     let answer = same (r₁ .answer) (r₂ .answer) (ap (λ (w : ConsoleOutcome). w .answer) e) in
     let place = ap (λ (w : ConsoleOutcome). w .place) e in
@@ -73,10 +90,72 @@ console-step o r₁ r₂ b₁ b₂ e₁ e₂ =
     let calls = ap (λ (w : ConsoleOutcome). w .calls) e in
     (λ i. record { answer = answer i; place = place i; count = count i; calls = calls i }, ap (λ (w : ConsoleOutcome). w .buffer) e)
 
-pub console-step-lent : (o : ConsoleOutcome) (r₁ r₂ : ConsoleTold) (t₁ t₂ : List Call) (b₁ b₂ : List ℕ) → asTold r₁ t₁ b₁ ≡ o → asTold r₂ t₂ b₂ ≡ o → (r₁ ≡ r₂) × ((t₁ ≡ t₂) × (b₁ ≡ b₂))
-console-step-lent o r₁ r₂ t₁ t₂ b₁ b₂ e₁ e₂ =
+-- where an event leads, by what its cases stand for
+same-lead : (x y : Led) → asLead x ≡ asLead y → x ≡ y
+same-lead (Led.To k e) (Led.To l f) h = cc
+same-lead (Led.To k e) (Led.Everywhere f) h = absurd (let z : _≡_ {A = ℕ} 0 1 = cc in omega arith)
+same-lead (Led.To k e) (Led.Refused b n) h = absurd (let z : _≡_ {A = ℕ} 0 1 = cc in omega arith)
+same-lead (Led.Everywhere e) (Led.To l f) h = absurd (let z : _≡_ {A = ℕ} 0 1 = cc in omega arith)
+same-lead (Led.Everywhere e) (Led.Everywhere f) h = cc
+same-lead (Led.Everywhere e) (Led.Refused b n) h = absurd (let z : _≡_ {A = ℕ} 0 1 = cc in omega arith)
+same-lead (Led.Refused a m) (Led.To l f) h = absurd (let z : _≡_ {A = ℕ} 0 1 = cc in omega arith)
+same-lead (Led.Refused a m) (Led.Everywhere f) h = absurd (let z : _≡_ {A = ℕ} 0 1 = cc in omega arith)
+same-lead (Led.Refused a m) (Led.Refused b n) h =
+    let number : consoleNumber a ≡ consoleNumber b = cc in
+    let answer = same a b number in
+    let place : m ≡ n = cc in
+    cc
+
+-- ---- the functions
+
+pub console-step-lent : (calls : List Call) (place : ℕ) (event buffer : List ℕ) (r₁ r₂ : ConsoleTold) (t₁ t₂ : List Call) (b₁ b₂ : List ℕ)
+    → asTold r₁ t₁ b₁ ≡ consoleOf calls place event buffer → asTold r₂ t₂ b₂ ≡ consoleOf calls place event buffer → (r₁ ≡ r₂) × ((t₁ ≡ t₂) × (b₁ ≡ b₂))
+console-step-lent calls place event buffer r₁ r₂ t₁ t₂ b₁ b₂ e₁ e₂ =
     let e : asTold r₁ t₁ b₁ ≡ asTold r₂ t₂ b₂ = e₁ ∙ sym e₂ in
     let answer = same (r₁ .answer) (r₂ .answer) (ap (λ (w : ConsoleOutcome). w .answer) e) in
     let place = ap (λ (w : ConsoleOutcome). w .place) e in
     let count = ap (λ (w : ConsoleOutcome). w .count) e in
     (λ i. record { answer = answer i; place = place i; count = count i }, (ap (λ (w : ConsoleOutcome). w .calls) e, ap (λ (w : ConsoleOutcome). w .buffer) e))
+
+pub console-step-over : (calls : List Call) (place : ℕ) (event buffer : List ℕ) (r₁ r₂ : ConsoleStepped) (b₁ b₂ : List ℕ)
+    → asConsole r₁ b₁ ≡ consoleOf calls place event buffer → asConsole r₂ b₂ ≡ consoleOf calls place event buffer → (r₁ ≡ r₂) × (b₁ ≡ b₂)
+console-step-over calls place event buffer r₁ r₂ b₁ b₂ e₁ e₂ = same-console _ r₁ r₂ b₁ b₂ e₁ e₂
+
+pub console-step : (κs : _) (a : _) (r₁ r₂ : _) (e₁ e₂ : _) → console-step-promise.Learnt κs a r₁ e₁ → console-step-promise.Learnt κs a r₂ e₂ → (r₁ ≡ r₂) × (now (e₁ .1 .1 .1 .0) ≡ now (e₂ .1 .1 .1 .0))
+console-step κs a r₁ r₂ e₁ e₂ p q = same-console _ r₁ r₂ _ _ p q
+
+pub everywhere : (κs : _) (a : _) (r₁ r₂ : _) (e₁ e₂ : _) → everywhere-promise.Learnt κs a r₁ e₁ → everywhere-promise.Learnt κs a r₂ e₂ → (r₁ ≡ r₂) × (now (e₁ .1 .1 .0) ≡ now (e₂ .1 .1 .0))
+everywhere κs a r₁ r₂ e₁ e₂ p q = same-console _ r₁ r₂ _ _ p q
+
+pub place-step : (κs : _) (a : _) (r₁ r₂ : _) (e₁ e₂ : _) → place-step-promise.Learnt κs a r₁ e₁ → place-step-promise.Learnt κs a r₂ e₂ → (r₁ ≡ r₂) × (now (e₁ .1 .1 .1 .0) ≡ now (e₂ .1 .1 .1 .0))
+place-step κs a r₁ r₂ e₁ e₂ p q = step-determined.step _ r₁ r₂ _ _ p q
+
+pub console-number : (κs : _) (a : _) (r₁ r₂ : _) (e₁ e₂ : _) → console-number-promise.Learnt κs a r₁ e₁ → console-number-promise.Learnt κs a r₂ e₂ → r₁ ≡ r₂
+console-number κs a r₁ r₂ e₁ e₂ p q = p .0 ∙ sym (q .0)
+
+pub aim-of : (κs : _) (a : _) (r₁ r₂ : _) (e₁ e₂ : _) → aim-of-promise.Learnt κs a r₁ e₁ → aim-of-promise.Learnt κs a r₂ e₂ → r₁ ≡ r₂
+aim-of κs a r₁ r₂ e₁ e₂ p q = p ∙ sym q
+
+pub route-of : (κs : _) (a : _) (r₁ r₂ : _) (e₁ e₂ : _) → route-of-promise.Learnt κs a r₁ e₁ → route-of-promise.Learnt κs a r₂ e₂ → r₁ ≡ r₂
+route-of κs a r₁ r₂ e₁ e₂ p q = p ∙ sym q
+
+pub key-of : (κs : _) (a : _) (r₁ r₂ : _) (e₁ e₂ : _) → key-of-promise.Learnt κs a r₁ e₁ → key-of-promise.Learnt κs a r₂ e₂ → r₁ ≡ r₂
+key-of κs a r₁ r₂ e₁ e₂ p q = p ∙ sym q
+
+pub keys-of : (κs : _) (a : _) (r₁ r₂ : _) (e₁ e₂ : _) → keys-of-promise.Learnt κs a r₁ e₁ → keys-of-promise.Learnt κs a r₂ e₂ → r₁ ≡ r₂
+keys-of κs a r₁ r₂ e₁ e₂ p q = p ∙ sym q
+
+pub apart-by : (κs : _) (a : _) (r₁ r₂ : _) (e₁ e₂ : _) → apart-by-promise.Learnt κs a r₁ e₁ → apart-by-promise.Learnt κs a r₂ e₂ → r₁ ≡ r₂
+apart-by κs a r₁ r₂ e₁ e₂ p q = p ∙ sym q
+
+pub held-by : (κs : _) (a : _) (r₁ r₂ : _) (e₁ e₂ : _) → held-by-promise.Learnt κs a r₁ e₁ → held-by-promise.Learnt κs a r₂ e₂ → r₁ ≡ r₂
+held-by κs a r₁ r₂ e₁ e₂ p q = p ∙ sym q
+
+pub idle-by : (κs : _) (a : _) (r₁ r₂ : _) (e₁ e₂ : _) → idle-by-promise.Learnt κs a r₁ e₁ → idle-by-promise.Learnt κs a r₂ e₂ → r₁ ≡ r₂
+idle-by κs a r₁ r₂ e₁ e₂ p q = p ∙ sym q
+
+pub table-sound : (κs : _) (a : _) (r₁ r₂ : _) (e₁ e₂ : _) → table-sound-promise.Learnt κs a r₁ e₁ → table-sound-promise.Learnt κs a r₂ e₂ → r₁ ≡ r₂
+table-sound κs a r₁ r₂ e₁ e₂ p q = p ∙ sym q
+
+pub lead : (κs : _) (a : _) (r₁ r₂ : _) (e₁ e₂ : _) → lead-promise.Learnt κs a r₁ e₁ → lead-promise.Learnt κs a r₂ e₂ → r₁ ≡ r₂
+lead κs a r₁ r₂ e₁ e₂ p q = same-lead r₁ r₂ (p ∙ sym q)

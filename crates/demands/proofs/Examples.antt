@@ -1,15 +1,13 @@
 -- Every starred example of the paper holds of the definitions, and the one that counts 32 bytes shows that no smaller buffer is always enough; nor is one of
 -- less than 52 for every sound record.
-use mathlib.Core.Path.{_≡_, refl}
-use mathlib.Core.Bool.{true}
-use Rattle.records.specs.Laws.{every}
-use Rattle.demands.specs.Examples.{right, examples}
+use mathlib.Core.Path.{refl}
+use Rattle.demands.specs.Examples.{Starred}
 use Rattle.demands.specs.Demands.{Writes32, Writes52}
 use Rattle.demands.proofs.Computed.{computed}
 
-pub checked : every right examples ≡ true
+pub starred : Starred
 unfolding computed
-checked = refl
+starred = refl
 
 pub writes-32 : Writes32
 unfolding computed

@@ -5,6 +5,7 @@ pub mod Cases
 pub mod Computed
 pub mod Cut
 pub mod Demands
+pub mod Determined
 pub mod Drawn
 pub mod Ended
 pub mod Examples

@@ -1,5 +1,5 @@
--- None of the five steps that the paper names meets the promise of the step: on an input written out here each gives something else.
-use Prim.Native.Nat.{ℕ}
+-- The claims of specs/WrongSteps.antt: none of the five steps that the paper names meets the promise of the step; on an input written out here each gives
+-- something else.
 use mathlib.Core.Path.{_≡_, refl, sym, _∙_, ap}
 use mathlib.Core.List.{[]}
 use native.Mathlib.Omega.{arith}
@@ -8,7 +8,7 @@ use Rattle.callcontrol.specs.Call.{freshCall}
 use Rattle.callcontrol.specs.Step.{Outcome, stepOf}
 use Rattle.demands.specs.Examples.{setupRequest}
 use Rattle.demands.proofs.Computed.{computed}
-use Rattle.demands.specs.WrongSteps.{Step, Promise, refusesAll, singleAnswer, writesNothing, firstOnly, countsMore}
+use Rattle.demands.specs.WrongSteps.{Step, Promise, firstOnly, countsMore, PromiseMet, NotRefusesAll, NotSingleAnswer, NotWritesNothing, NotFirstOnly, NotCountsMore}
 
 -- the first input: a SETUP request in IDLE, with 64 bytes lent
 abbrev first : Step → Outcome
@@ -45,24 +45,23 @@ answers e = ap (λ (o : Outcome). o .answer) e
 counts : {x y : Outcome} → x ≡ y → x .count ≡ y .count
 counts e = ap (λ (o : Outcome). o .count) e
 
--- the promise can be met
-pub kept : Promise stepOf
+pub kept : PromiseMet
 kept c event buffer = refl
 
-pub refuses-all : (n : ℕ) → Promise (refusesAll n) → ⊥
+pub refuses-all : NotRefusesAll
 refuses-all n h = let e = counts (first-same h) ∙ facts .count in omega arith
 
-pub single-answer : (n : ℕ) → Promise (singleAnswer n) → ⊥
+pub single-answer : NotSingleAnswer
 single-answer n h =
     let e = answers (first-same h) ∙ facts .answer in
     let f = answers (second-same h) ∙ facts .short in
     omega arith
 
-pub writes-nothing : Promise writesNothing → ⊥
+pub writes-nothing : NotWritesNothing
 writes-nothing h = let e = counts (first-same h) ∙ facts .count in omega arith
 
-pub first-only : Promise firstOnly → ⊥
+pub first-only : NotFirstOnly
 first-only h = let e = sym (facts .zero) ∙ answers (second-same h) ∙ facts .short in omega arith
 
-pub counts-more : Promise countsMore → ⊥
+pub counts-more : NotCountsMore
 counts-more h = let e = sym (facts .more) ∙ counts (first-same h) ∙ facts .count in omega arith

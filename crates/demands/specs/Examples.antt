@@ -3,8 +3,10 @@
 use Prim.Native.Nat.{ℕ}
 use mathlib.Core.Bool.{Bool, true, false, not, _&&_, _||_}
 use mathlib.Core.List.{List, [], _∷_}
+use mathlib.Core.Path.{_≡_}
 use lib.Dec.{eqb}
 use lib.ListN.{replicate}
+use Rattle.records.specs.Laws.{every}
 use Rattle.callcontrol.specs.declared.call.Call.{Call}
 use Rattle.callcontrol.specs.Call.{freshCall, isIdle, runs, stateNumber, T301, T302, T303, T306, T308, T310, T311}
 use Rattle.callcontrol.specs.Step.{Outcome}
@@ -160,3 +162,7 @@ right x =
     along (x .at .by)
     (λ c. x .at .is c && along (x .come) (λ d. met (x .gives) (outcome d (turn (x .last) (x .lent)))) c)
     freshCall
+
+-- every row of the table is right
+abbrev pub Starred : Type 0
+Starred = every right examples ≡ true

@@ -1,4 +1,4 @@
--- Five steps that the promise of the step must not allow. proofs/WrongSteps shows an input on which each breaks it.
+-- Five steps that the promise of the step must not allow, and that it allows none of them. proofs/WrongSteps shows an input on which each breaks it.
 use Prim.Native.Nat.{ℕ, _+_}
 use mathlib.Core.Path.{_≡_}
 use mathlib.Core.Bool.{cond}
@@ -51,3 +51,25 @@ countsMore c event buffer =
       count = cond (eqb (stepOf c event buffer .answer) 0) (stepOf c event buffer .count + 1) 0;
       buffer = stepOf c event buffer .buffer;
     }
+
+-- What is claimed; the proofs are in proofs/WrongSteps
+
+-- the promise can be met,
+abbrev pub PromiseMet : Type 0
+PromiseMet = Promise stepOf
+
+-- and by none of the five
+abbrev pub NotRefusesAll : Type 0
+NotRefusesAll = (n : ℕ) → Promise (refusesAll n) → ⊥
+
+abbrev pub NotSingleAnswer : Type 0
+NotSingleAnswer = (n : ℕ) → Promise (singleAnswer n) → ⊥
+
+abbrev pub NotWritesNothing : Type 0
+NotWritesNothing = Promise writesNothing → ⊥
+
+abbrev pub NotFirstOnly : Type 0
+NotFirstOnly = Promise firstOnly → ⊥
+
+abbrev pub NotCountsMore : Type 0
+NotCountsMore = Promise countsMore → ⊥

@@ -1,11 +1,9 @@
 pub mod Answers
 pub mod BankAnswers
 pub mod BankBytes
-pub mod BankDetermined
 pub mod BankPacking
 pub mod BankRuns
 pub mod ChannelAnswers
-pub mod ChannelDetermined
 pub mod ChannelPacking
 pub mod ChannelRuns
 pub mod Determined

@@ -1,4 +1,4 @@
--- A reader as 2 bytes, there and back; each entry's promise leaves one result; and what the entries answer, from what their callees give.
+-- A reader as 2 bytes, there and back; and what the entries answer, from what their callees give.
 use Prim.Native.Nat.{ℕ, zero, suc, _≤_}
 use mathlib.Core.Path.{_≡_, refl, sym, _∙_, ap, subst}
 use mathlib.Core.Bool.{Bool, true, false, not}
@@ -14,7 +14,7 @@ use Rattle.pieces.specs.Next.{Outcome, answerNumber, whereNumber, asOutcome, ne
 use Rattle.pieces.specs.Claims.{Small}
 use Rattle.pieces.proofs.Claims.{small-numbers}
 use Rattle.host.specs.Packing.{flag}
-use Rattle.host.specs.SerialLine.{readerBytes, isReader, readerOf, foundWord, LeftByPiece, leftBy, hostNext, ReaderIsUnpacked, ReaderIsPacked, ReaderStays, ReaderFreshDetermined, NextDetermined}
+use Rattle.host.specs.SerialLine.{readerBytes, isReader, readerOf, foundWord, LeftByPiece, leftBy, hostNext, ReaderIsUnpacked, ReaderIsPacked, ReaderStays}
 use Rattle.demands.proofs.Facts.{left, right}
 
 -- ---- two bytes
@@ -101,11 +101,3 @@ module _
   unfolding hostNext
   hands-on {w} {after} packs word =
       rw (← tested, not-false is so, packs, word) (ap (leftBy s) of-the-bytes)
-
--- ---- two results that a promise allows are equal
-
-pub fresh : ReaderFreshDetermined
-fresh s w₁ w₂ e₁ e₂ = e₁ ∙ sym e₂
-
-pub next : NextDetermined
-next s carry piece w₁ w₂ e₁ e₂ = e₁ ∙ sym e₂

@@ -1,4 +1,4 @@
--- What holds of packed rooms, of their entries' promises, and of a host's run over the 20 bytes: it is the run of the rooms that the bytes hold, so that what
+-- What holds of packed rooms, and of a host's run over the 20 bytes: it is the run of the rooms that the bytes hold, so that what
 -- is proved over every run (channel's Demands) is said of what a set calls. The proofs are in proofs/ChannelPacking and proofs/ChannelRuns.
 use Prim.Native.Nat.{ℕ, _/_, _<_}
 use mathlib.Core.Path.{_≡_}
@@ -11,7 +11,7 @@ use Rattle.callcontrol.specs.declared.call.Call.{Call}
 use Rattle.callcontrol.specs.Step as step
 use Rattle.channel.specs.declared.rooms.Room.{Room}
 use Rattle.channel.specs.Rooms.{freshRooms, every?}
-use Rattle.channel.specs.Questions.{Outcome, pduOf}
+use Rattle.channel.specs.Questions.{pduOf}
 use Rattle.channel.specs.Runs.{Turn, lentBy, outcome, run, AllHanded}
 use Rattle.host.specs.Packing.{unpacked}
 use Rattle.host.specs.Entries.{ANSWER, hostStep}
@@ -62,13 +62,3 @@ abbrev pub ByTheResult : Type 0
 ByTheResult =
     (rooms : List Room) (n c : ℕ) (b s pdu out : List ℕ) (call : Call) → unpacked s ≡ some call →
     pduOf rooms n c (hostStep s pdu out .result / ANSWER) b ≡ pduOf rooms n c (step.stepOf call pdu out .answer) b
-
--- two results that an entry's promise allows are equal: the returned number, the rooms' bytes and the lent buffer
-
-abbrev pub RoomsFreshDetermined : Type 0
-RoomsFreshDetermined = (s : List ℕ) (w₁ w₂ : RoomsLeft) → w₁ ≡ roomsFreshened s → w₂ ≡ roomsFreshened s → w₁ ≡ w₂
-
--- the other four, each with its own call
-abbrev pub RoomsCallDetermined : Type 0
-RoomsCallDetermined =
-    (s out : List ℕ) (call : List Room → Outcome) (w₁ w₂ : RoomsLeft) → w₁ ≡ onRooms s out call → w₂ ≡ onRooms s out call → w₁ ≡ w₂

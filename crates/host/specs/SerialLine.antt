@@ -57,11 +57,3 @@ ReaderIsPacked = (s : List ℕ) → isReader s ≡ true → sets s 0 (readerByte
 -- what an entry leaves is a reader again
 abbrev pub ReaderStays : Type 0
 ReaderStays = (s carry piece : List ℕ) → isReader s ≡ true → isReader (hostNext s carry piece .reader) ≡ true
-
--- two results that an entry's promise allows are equal: the returned number with every byte of the slices that it may write
-
-abbrev pub ReaderFreshDetermined : Type 0
-ReaderFreshDetermined = (s : List ℕ) (w₁ w₂ : ℕ × List ℕ) → w₁ ≡ readerFreshened s → w₂ ≡ readerFreshened s → w₁ ≡ w₂
-
-abbrev pub NextDetermined : Type 0
-NextDetermined = (s carry piece : List ℕ) (w₁ w₂ : LeftByPiece) → w₁ ≡ hostNext s carry piece → w₂ ≡ hostNext s carry piece → w₁ ≡ w₂

@@ -1,4 +1,4 @@
--- What holds of the packed table and of the console entries' promises. The proofs are in proofs/Packing and proofs/Determined.
+-- What holds of the packed table; the proofs are in proofs/Packing. That the entries' promises leave no choice is said of their own contracts, in proofs/Determined.
 use Prim.Native.Nat.{ℕ, _<_}
 use mathlib.Core.Path.{_≡_}
 use mathlib.Core.Bool.{true}
@@ -7,7 +7,7 @@ use lib.ListN.{length, getD}
 use Rattle.callcontrol.specs.declared.call.Call.{Call}
 use Rattle.console.specs.Table.{callAt, tableSound}
 use Rattle.host.specs.Laws.{Fitting}
-use Rattle.host_console.specs.Table.{isTable, heldTable, packedInto, TableLeft, consoleFreshened, consoleHostStep}
+use Rattle.host_console.specs.Table.{isTable, heldTable, packedInto}
 
 -- any records that are packed into any 176 bytes are a table
 abbrev pub PackedIsTable : Type 0
@@ -28,13 +28,3 @@ SoundTableIsHeld =
 abbrev pub HeldTableIsPacked : Type 0
 HeldTableIsPacked =
     (s over : List ℕ) → ((i : ℕ) → getD s i 0 < 256) → isTable s ≡ true → length over ≡ 176 → packedInto (heldTable s) over ≡ s
-
--- two results that an entry's promise allows are equal: the returned number with every byte of the slices that the entry may write
-
-abbrev pub ConsoleFreshDetermined : Type 0
-ConsoleFreshDetermined = (s : List ℕ) (w₁ w₂ : ℕ × List ℕ) → w₁ ≡ consoleFreshened s → w₂ ≡ consoleFreshened s → w₁ ≡ w₂
-
-abbrev pub ConsoleStepDetermined : Type 0
-ConsoleStepDetermined =
-    (s : List ℕ) (place : ℕ) (event out : List ℕ) (w₁ w₂ : TableLeft) →
-    w₁ ≡ consoleHostStep s place event out → w₂ ≡ consoleHostStep s place event out → w₁ ≡ w₂

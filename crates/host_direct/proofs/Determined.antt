@@ -1,23 +1,31 @@
--- For each entry two results that its promise allows are equal: each promise is an equation of the result and of every lent byte.
-use mathlib.Core.Path.{sym, _∙_}
-use Rattle.host_direct.specs.Laws.{FreshDetermined, StepDetermined, CheckDetermined, CopyDetermined}
-use Rattle.direct.specs.Events.{events}
-use Rattle.direct.specs.Messages.{messages}
+-- The promises leave no choice: two results that an entry's own `ensures` allows are equal, with every lent byte. `Learnt` is that `ensures` as a caller learns it, of
+-- the arguments, the result, and the parameters when it returns.
+use Prim.Native.Nat.{ℕ}
+use mathlib.Core.Path.{_≡_, sym, _∙_}
+use mathlib.Core.List.{List}
+use denote.Ref.{now}
+use Rattle.host_direct.specs.Entries.{Left}
+use Rattle.host_direct.proofs.callcontrol_direct_fresh.Reads as fresh-promise
+use Rattle.host_direct.proofs.callcontrol_direct_step.Reads as step-promise
+use Rattle.host_direct.proofs.callcontrol_direct_check_event.Reads as check-event-promise
+use Rattle.host_direct.proofs.callcontrol_direct_check_message.Reads as check-message-promise
+use Rattle.host_direct.proofs.callcontrol_direct_copy_event.Reads as copy-event-promise
+use Rattle.host_direct.proofs.callcontrol_direct_copy_message.Reads as copy-message-promise
 
-pub fresh : FreshDetermined
-fresh s w₁ w₂ e₁ e₂ = e₁ ∙ sym e₂
+pub fresh : (κs : _) (a : _) (r₁ r₂ : _) (e₁ e₂ : _) → fresh-promise.Learnt κs a r₁ e₁ → fresh-promise.Learnt κs a r₂ e₂ → _≡_ {A = ℕ × List ℕ} (r₁, now (e₁ .0)) (r₂, now (e₂ .0))
+fresh κs a r₁ r₂ e₁ e₂ p q = p ∙ sym q
 
-pub step : StepDetermined
-step s event out w₁ w₂ e₁ e₂ = e₁ ∙ sym e₂
+pub step : (κs : _) (a : _) (r₁ r₂ : _) (e₁ e₂ : _) → step-promise.Learnt κs a r₁ e₁ → step-promise.Learnt κs a r₂ e₂ → _≡_ {A = Left} (record { result = r₁; call = now (e₁ .0); out = now (e₁ .1 .1 .0) }) (record { result = r₂; call = now (e₂ .0); out = now (e₂ .1 .1 .0) })
+step κs a r₁ r₂ e₁ e₂ p q = p ∙ sym q
 
-pub check-event : CheckDetermined events
-check-event s r₁ r₂ e₁ e₂ = e₁ ∙ sym e₂
+pub check-event : (κs : _) (a : _) (r₁ r₂ : _) (e₁ e₂ : _) → check-event-promise.Learnt κs a r₁ e₁ → check-event-promise.Learnt κs a r₂ e₂ → r₁ ≡ r₂
+check-event κs a r₁ r₂ e₁ e₂ p q = p ∙ sym q
 
-pub check-message : CheckDetermined messages
-check-message s r₁ r₂ e₁ e₂ = e₁ ∙ sym e₂
+pub check-message : (κs : _) (a : _) (r₁ r₂ : _) (e₁ e₂ : _) → check-message-promise.Learnt κs a r₁ e₁ → check-message-promise.Learnt κs a r₂ e₂ → r₁ ≡ r₂
+check-message κs a r₁ r₂ e₁ e₂ p q = p ∙ sym q
 
-pub copy-event : CopyDetermined events
-copy-event s out w₁ w₂ e₁ e₂ = e₁ ∙ sym e₂
+pub copy-event : (κs : _) (a : _) (r₁ r₂ : _) (e₁ e₂ : _) → copy-event-promise.Learnt κs a r₁ e₁ → copy-event-promise.Learnt κs a r₂ e₂ → _≡_ {A = ℕ × List ℕ} (r₁, now (e₁ .1 .0)) (r₂, now (e₂ .1 .0))
+copy-event κs a r₁ r₂ e₁ e₂ p q = p ∙ sym q
 
-pub copy-message : CopyDetermined messages
-copy-message s out w₁ w₂ e₁ e₂ = e₁ ∙ sym e₂
+pub copy-message : (κs : _) (a : _) (r₁ r₂ : _) (e₁ e₂ : _) → copy-message-promise.Learnt κs a r₁ e₁ → copy-message-promise.Learnt κs a r₂ e₂ → _≡_ {A = ℕ × List ℕ} (r₁, now (e₁ .1 .0)) (r₂, now (e₂ .1 .0))
+copy-message κs a r₁ r₂ e₁ e₂ p q = p ∙ sym q

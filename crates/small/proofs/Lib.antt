@@ -1,6 +1,7 @@
 pub mod Answers
 pub mod Carrying
 pub mod Deciding
+pub mod Determined
 pub mod Entries
 pub mod Engines
 pub mod Letters
