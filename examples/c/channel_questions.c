@@ -4,8 +4,9 @@
  * take, and the network asks for it twice; one is to a group that another part of the set is calling,
  * whose U-SETUP is cancelled too late; and one waits for the user until the network ends it.
  *
- * The host keeps two things: the bytes of its individual call, and the bytes of the rooms of waiting
- * questions. Group calls it does not keep: the part that does is told of CANCEL, and says what came of it.
+ * The host keeps three things: the bytes of its individual call, the bytes of the rooms of waiting
+ * questions, and which of these wait for the user. Group calls it does not keep: the part that does is
+ * told of CANCEL, and says what came of it.
  *
  *     gcc -std=c11 -Wall -Wextra -Werror -Iinclude examples/c/channel_questions.c \
  *         target/staticlib/libhost.a -o target/channel_questions
@@ -14,11 +15,18 @@
 
 #include <stdio.h>
 #include <stdlib.h>
+#include <string.h>
 
 static uint8_t call[CALLCONTROL_RECORD_SIZE];
 static uint8_t rooms[CALLCONTROL_ROOMS_SIZE];
 
-/* The host numbers the questions, rising. */
+/* The questions that wait for the user, in the order asked; a set runs T330 for each. */
+struct question {
+    uint16_t number, identifier;
+};
+static struct question for_user[CALLCONTROL_ROOMS_SIZE / CALLCONTROL_ROOM_SIZE];
+static size_t for_user_len;
+
 static uint16_t last_number;
 
 static const char *const verdicts[] = {"accept", "reject", "ignore"};
@@ -28,15 +36,27 @@ static unsigned int two_bytes(const uint8_t *bytes)
     return bytes[0] | (unsigned int)bytes[1] << 8;
 }
 
+/* A question is answered, so it waits no more; here its T330 is stopped. */
+static void answered(unsigned int number)
+{
+    size_t left = 0;
+
+    for (size_t at = 0; at < for_user_len; at++)
+        if (for_user[at].number != number)
+            for_user[left++] = for_user[at];
+    for_user_len = left;
+}
+
 /* What a real host hands to the lower layers, and to its part for group calls. */
 static void hand_on(const uint8_t *out, size_t count)
 {
     for (size_t at = 0; at < count; at += two_bytes(out + at)) {
         unsigned int kind = two_bytes(out + at + 2);
-        if (kind == CALLCONTROL_CHANNEL_ANSWER)
+        if (kind == CALLCONTROL_CHANNEL_ANSWER) {
             printf("    to the lower layers: question %u, %s\n", two_bytes(out + at + 4),
                    verdicts[out[at + 6]]);
-        else if (kind == CALLCONTROL_CANCEL)
+            answered(two_bytes(out + at + 4));
+        } else if (kind == CALLCONTROL_CANCEL)
             printf("    to the part for group calls: CANCEL of its U-SETUP\n");
         else
             printf("    message %04X\n", kind);
@@ -78,8 +98,12 @@ static uint16_t ask_group(const char *what, uint16_t identifier, uint8_t asked)
     uint8_t out[CALLCONTROL_CHANNEL_ASK_MAX];
     last_number++;
     printf("%s, question %u\n", what, last_number);
-    show("question", callcontrol_channel_ask(rooms, sizeof rooms, last_number, identifier, asked, out,
-                                             sizeof out), out);
+    uint32_t result = callcontrol_channel_ask(rooms, sizeof rooms, last_number, identifier, asked, out,
+                                              sizeof out);
+    show("question", result, out);
+    /* Here its T330 is started. */
+    if (asked == CALLCONTROL_ASKED_GROUP && callcontrol_answer_of(result) == CALLCONTROL_TAKEN)
+        for_user[for_user_len++] = (struct question){last_number, identifier};
     return last_number;
 }
 
@@ -90,24 +114,17 @@ static void decide(uint16_t number, uint8_t decision)
                                                 sizeof out), out);
 }
 
-static int waits_for_the_user(uint16_t number, uint16_t identifier)
-{
-    for (const uint8_t *room = rooms; room < rooms + sizeof rooms; room += CALLCONTROL_ROOM_SIZE)
-        if (room[CALLCONTROL_ROOM_AT_WAIT] == 1
-            && two_bytes(room + CALLCONTROL_ROOM_AT_NUMBER) == number
-            && two_bytes(room + CALLCONTROL_ROOM_AT_CALL) == identifier)
-            return 1;
-    return 0;
-}
-
-/* The user's one word on a group call decides every question of it that waits for the user. This
- * host's numbers rise, so that they are decided in the order asked. */
+/* The user's one word on a group call decides every question of it that waits for the user. */
 static void decide_call(const char *what, uint16_t identifier, uint8_t decision)
 {
+    struct question asked[sizeof for_user / sizeof for_user[0]];
+    size_t len = for_user_len;
+
     printf("%s\n", what);
-    for (uint16_t number = 1; number <= last_number; number++)
-        if (waits_for_the_user(number, identifier))
-            decide(number, decision);
+    memcpy(asked, for_user, sizeof asked); /* a decision takes its question from the list */
+    for (size_t at = 0; at < len; at++)
+        if (asked[at].identifier == identifier)
+            decide(asked[at].number, decision);
 }
 
 static void ended(const char *what, uint16_t identifier)
@@ -136,7 +153,6 @@ int main(void)
     ask_pdu(21, step("D-CONNECT for call 21, with a channel", d_connect));
     ask_pdu(22, step("A grant for another call, with a channel", another_grant));
 
-    /* Here the host starts T330 for the question, and stops it when the question is answered. */
     ask_group("D-SETUP of group call 40, a group that nobody here is calling", 40,
               CALLCONTROL_ASKED_GROUP);
     uint16_t cancelling =
