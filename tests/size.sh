@@ -16,12 +16,19 @@ for archive in host host_console host_small; do
         exit 1
     fi
 done
-if [ "$(uname -m)" = x86_64 ]; then
-    cross=
-else
+# The library that is shipped is x86-64 code; one of tests/at_hand.sh is for the machine at hand.
+machine=$(ar p "$folder/libhost.a" | od -An -tu2 -j18 -N2 | tr -d ' ')
+case $machine.$(uname -m) in
+62.x86_64 | 183.aarch64) cross= ;;
+62.*)
     echo 'The account cannot be built for x86-64 here, so only the library is measured.'
     cross=x86_64-linux-gnu-
-fi
+    ;;
+*)
+    echo "$folder/libhost.a is for another machine" >&2
+    exit 1
+    ;;
+esac
 
 work=$(mktemp -d)
 trap 'rm -rf "$work"' EXIT

@@ -37,9 +37,10 @@ pub extern "C" fn callcontrol_step(call: &mut [u8], event: &[u8], out: &mut [u8]
     let answer = stepped.answer;
     let next = stepped.call;
     let number = answer_number(answer) as u32;
-    let result = number * ANSWER + (stepped.place as u32) * PLACE + stepped.count as u32;
+    let rest = (stepped.place as u32) * PLACE + stepped.count as u32;
     if number == 0 {
         pack(next, call);
+        return rest;
     }
-    result
+    number * ANSWER + rest
 }

@@ -21,8 +21,7 @@ use Rattle.callcontrol.specs.Step.{Outcome, carried}
 use Rattle.callcontrol.specs.Settle.{has, pduBy, userBy, settled}
 use Rattle.callcontrol.specs.Writing.{when, held, byNumber, starting, messagesIn, bytesOf}
 use Rattle.small.specs.Entry.{widthOf, spell, body, entryBytes, U-PDUS, PRIMITIVES, STOP, START, CONFIGURE, CANCELLING}
-use Rattle.small.specs.Places.{numberAt, timerAt, valuesFor, placeBytes, placesFrom, numberOf, pduOf, othersBy, valuesBy, bytesBy}
-use Rattle.small.proofs.Places.{digits}
+use Rattle.small.specs.Places.{numberAfter, numberAt, timerAt, valuesFor, placeBytes, placesFrom, numberOf, pduOf, valuesBy, bytesBy}
 
 -- a list's bytes in two parts
 bytes-append : (ms ns : List Message) → bytesOf (ms ++ ns) ≡ bytesOf ms ++ bytesOf ns
@@ -31,7 +30,7 @@ bytes-append [] ns = refl
 bytes-append (m ∷ ms) ns = ap (λ (r : List ℕ). messageBytes m ++ r) (bytes-append ms ns) ∙ sym (append-assoc (messageBytes m) (bytesOf ms) (bytesOf ns))
 
 -- a digit of a row
-by-digit : (P : ℕ → Type 0) → P 0 → P 1 → P 2 → P 3 → P 4 → P 5 → P 6 → P 7 → P 8 → P 9 → ((d : ℕ) → 9 < d → P d) → (d : ℕ) → P d
+pub by-digit : (P : ℕ → Type 0) → P 0 → P 1 → P 2 → P 3 → P 4 → P 5 → P 6 → P 7 → P 8 → P 9 → ((d : ℕ) → 9 < d → P d) → (d : ℕ) → P d
 by-digit P p0 p1 p2 p3 p4 p5 p6 p7 p8 p9 more zero = p0
 by-digit P p0 p1 p2 p3 p4 p5 p6 p7 p8 p9 more (suc zero) = p1
 by-digit P p0 p1 p2 p3 p4 p5 p6 p7 p8 p9 more (suc (suc zero)) = p2
@@ -133,38 +132,23 @@ module _ (code p : ℕ) (r : Row) where
   seven : {x : List ℕ} (a b c d e f g s : List Message) → Spells x (a ++ (b ++ (c ++ (d ++ (e ++ (f ++ (g ++ s))))))) → Spells x ((a ++ (b ++ (c ++ (d ++ (e ++ (f ++ g)))))) ++ s)
   seven a b c d e f g s h = record { is = h .is ∙ ap bytesOf (let one : a ++ (b ++ (c ++ (d ++ (e ++ (f ++ (g ++ s)))))) ≡ (a ++ (b ++ (c ++ (d ++ (e ++ (f ++ g)))))) ++ s = simp append-assoc in one) }
 
-  at-most : (b : Bool) → cond b CANCELLING 0 < 32
-  at-most true = omega arith
-  at-most false = omega arith
-
-  number-small : (d most before : ℕ) → numberOf d most before ≤ most + before
-  unfolding numberOf
-  number-small d most before =
-      by-test (eqb d 0) (λ z. rw z (omega arith)) (λ z. rw z (by-test (ltb most d) (λ y. rw y (omega arith)) (λ y. rw y (omega (arith, ltb-false most d y)))))
-
-  pdu-small : (d v : ℕ) → pduOf d v ≤ 21
-  unfolding pduOf
-  pdu-small d v = by-test (eqb d 1 && not (eqb v 0)) (λ t. rw t (omega arith)) (λ t. rw t (omega (arith, number-small d U-PDUS 0)))
-
   pub places-are : (stops starts : List Bool)
-      → placesFrom 18 0 (numberAt stops starts (othersBy (r .orders) (r .value) p)) values
+      → placesFrom 18 0 (numberAt stops starts (r .orders) (r .value) p) values
       ≡ bytesOf (byNumber Message.Stop stops ++ (when (has (r .orders) 0x1000000) Message.Cancel ++ (held (pduBy r) ++ (byNumber (starting code) starts ++ (when (not (eqb p 0)) (Message.Configure p) ++ held (userBy r))))))
-  unfolding placesFrom numberAt othersBy byNumber timerAt starting pduBy userBy
+  unfolding placesFrom numberAt numberAfter byNumber timerAt starting pduBy userBy
   places-are stops starts =
       let b : Bool = has (r .orders) 0x1000000 in
       let f : Bool = not (eqb p 0) in
       let d : ℕ = r .orders / 0x10000 % 16 in
       let u : ℕ = r .orders / 0x100000 % 16 in
-      let x : ℕ = cond b CANCELLING 0 + pduOf d (r .value) * 32 + cond f 19456 0 + numberOf u PRIMITIVES U-PDUS * 32768 in
-      let g = digits (cond b CANCELLING 0) (pduOf d (r .value)) (numberOf u PRIMITIVES U-PDUS) f (at-most b) (omega (arith, pdu-small d (r .value))) (omega (arith, number-small u PRIMITIVES U-PDUS)) in
       let ws : ℕ → List Message = λ k. when (getD stops k false) (Message.Stop (timerAt (k % 9))) in
       let vs : ℕ → ℕ → List Message = λ k j. when (getD starts j false) (Message.Start (timerAt (k % 9)) (cond (eqb k 14) code 0)) in
       let stop : (k : ℕ) → Spells (placeBytes k (cond (getD stops k false) STOP 0) values) (ws k) = λ k. record { is = stop-place (getD stops k false) k } in
       let start : (k j : ℕ) → Spells (placeBytes k (cond (getD starts j false) START 0) values) (vs k j) = λ k j. record { is = start-place (getD starts j false) k } in
-      let cancel : Spells (placeBytes 7 (x % 32) values) (when b Message.Cancel) = record { is = ap (λ (n : ℕ). placeBytes 7 n values) (g .0) ∙ cancel-place b } in
-      let pdu : Spells (placeBytes 8 (x / 32 % 32) values) (held (pduAt d)) = record { is = ap (λ (n : ℕ). placeBytes 8 n values) (g .1) ∙ pdu-place d } in
-      let plane : Spells (placeBytes 16 (x / 1024 % 32) values) (when f (Message.Configure p)) = record { is = ap (λ (n : ℕ). placeBytes 16 n values) (g .2) ∙ plane-place f } in
-      let user : Spells (placeBytes 17 (x / 32768 % 32) values) (held (userAt u)) = record { is = ap (λ (n : ℕ). placeBytes 17 n values) (g .3) ∙ user-place u } in
+      let cancel : Spells (placeBytes 7 (cond b CANCELLING 0) values) (when b Message.Cancel) = record { is = cancel-place b } in
+      let pdu : Spells (placeBytes 8 (pduOf d (r .value)) values) (held (pduAt d)) = record { is = pdu-place d } in
+      let plane : Spells (placeBytes 16 (cond f CONFIGURE 0) values) (when f (Message.Configure p)) = record { is = plane-place f } in
+      let user : Spells (placeBytes 17 (numberOf u PRIMITIVES U-PDUS) values) (held (userAt u)) = record { is = user-place u } in
       let later = seven (vs 9 0) (vs 10 1) (vs 11 2) (vs 12 3) (vs 13 4) (vs 14 5) (vs 15 6) (when f (Message.Configure p) ++ held (userAt u))
       (then (start 9 0) (then (start 10 1) (then (start 11 2) (then (start 12 3) (then (start 13 4) (then (start 14 5) (then (start 15 6) (then plane (last user))))))))) in
       seven (ws 0) (ws 1) (ws 2) (ws 3) (ws 4) (ws 5) (ws 6) _

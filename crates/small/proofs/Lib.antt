@@ -5,8 +5,10 @@ pub mod Determined
 pub mod Entries
 pub mod Engines
 pub mod Letters
+pub mod Own
 pub mod Places
 pub mod Same
 pub mod Scan
 pub mod Slots
 pub mod Storing
+pub mod Timing

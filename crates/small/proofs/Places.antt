@@ -6,14 +6,14 @@ use mathlib.Core.List.{List, [], _∷_}
 use native.Mathlib.Nat.{le-of-suc-le-suc, not-suc-le-zero}
 use native.Mathlib.Omega.{arith}
 use borrow.Author.Tests.{eq-eqb, ne-eqb}
-use lib.Dec.{eqb}
+use lib.Dec.{eqb, ltb}
 use lib.ListN.{length, getD, set}
-use lib.Seq.{sets}
+use lib.Seq.{getD-set-other}
 use Rattle.records.specs.Bodies.{Stored}
 use Rattle.records.specs.Laws.{every}
-use Rattle.records.proofs.Laws.{both, stored-none, stored-then}
+use Rattle.records.proofs.Laws.{by-test, both, stored-none, stored-then}
 use Rattle.small.specs.Entry.{spell, spelled, entryBytes, entries}
-use Rattle.small.specs.Places.{othersFit, timerAt, valuesFor, Alike, placeBytes, placesFrom}
+use Rattle.small.specs.Places.{timerAt, valuesFor, Alike, placeBytes, placesFrom, runsOf, turned, turns, numberIn}
 
 -- a test that holds over a table holds at each entry
 pub at-entry : (p : ℕ → Bool) (xs : List ℕ) → every p xs ≡ true → (k : ℕ) → k < length xs → p (getD xs k 0) ≡ true
@@ -71,25 +71,23 @@ next-place k f v w h same p q =
     let one : suc k ≡ k + 1 = omega arith in
     rw left (stored-then (rw (same .is k) at p) (rw one q))
 
--- the four digits
-pub digits : (a b d : ℕ) (f : Bool) → a < 32 → b < 32 → d < 32
-    → let x : ℕ = a + b * 32 + cond f 19456 0 + d * 32768 in (x % 32 ≡ a) × (x / 32 % 32 ≡ b) × (x / 1024 % 32 ≡ cond f 19 0) × (x / 32768 % 32 ≡ d)
-digits a b d true p q r = (omega arith, omega arith, omega arith, omega arith)
-digits a b d false p q r = (omega arith, omega arith, omega arith, omega arith)
+-- a turn leaves the timers of later places as they were
+pub later : (n code p k j : ℕ) (t : List Bool) → k < j → getD (turned n code p k t) j false ≡ getD t j false
+unfolding turned
+later n code p k j t h =
+    by-test (ltb k 7)
+    (λ e. rw e (getD-set-other t k j (runsOf n code p (getD t k false) k) false (λ z. absurd (omega arith))))
+    (λ e. rw e refl)
 
-pub digits-fit : (a b d : ℕ) (f : Bool) → a ≤ 20 → b ≤ 21 → d ≤ 16 → othersFit (a + b * 32 + cond f 19456 0 + d * 32768)
-digits-fit a b d true p q r = (omega arith, omega arith, omega arith, omega arith)
-digits-fit a b d false p q r = (omega arith, omega arith, omega arith, omega arith)
+-- one turn, and those after it
+pub next-turn : (n code p k : ℕ) (t : List Bool) → k < 18 → turns n code p (18 - (k + 1)) (k + 1) (turned n code p k t) ≡ turns n code p (18 - k) k t
+unfolding turns
+next-turn n code p k t h =
+    let left : 18 - k ≡ suc (18 - (k + 1)) = omega arith in
+    let one : suc k ≡ k + 1 = omega arith in
+    rw (left, ← one) refl
 
-pub alike-places : {v w : List ℕ} → Alike v w → (m k : ℕ) (f : ℕ → ℕ) → placesFrom m k f v ≡ placesFrom m k f w
-unfolding placesFrom placeBytes
-alike-places same zero k f = refl
-alike-places same (suc m) k f = rw (same .is k, alike-places same m (suc k) f) refl
-
--- no room at all
-no-room : (xs : List ℕ) (at : ℕ) → sets [] at xs ≡ []
-no-room [] at = refl
-no-room (x ∷ xs) at = no-room xs (suc at)
-
-pub nothing-stored : {new xs : List ℕ} {at end : ℕ} → Stored [] at xs end new → new ≡ []
-nothing-stored {new} {xs} {at} s = s .now ∙ no-room xs at
+-- a place looks at its own timer alone
+pub same-number : (n code value p k : ℕ) (t u : List Bool) → getD t k false ≡ getD u k false → numberIn n code value p t k ≡ numberIn n code value p u k
+unfolding numberIn
+same-number n code value p k t u h = rw h refl

@@ -1,23 +1,26 @@
-// A row's messages from one table of messages: laid once into no room, which counts them, and then into the lent buffer.
+// A row's messages from one table of messages, laid in a room of our own and copied into the lent buffer.
 ghost use mathlib.Core.Path.{_≡_};
-ghost use mathlib.Core.Bool.{true, cond};
-ghost use Prim.Native.Nat.{_+_, _/_, _%_, _≤_, _<_};
+ghost use mathlib.Core.Bool.{true, false, cond};
+ghost use Prim.Native.Nat.{_+_, _-_, _/_, _%_, _≤_, _<_};
 ghost use lib.Dec.{eqb};
-ghost use lib.ListN.{length, set};
+ghost use lib.ListN.{length, getD, set};
 ghost use Rattle.records.specs.Bytes.{bytes};
 ghost use Rattle.records.specs.Bodies.{Stored};
 ghost use Rattle.callcontrol.specs.Settle.{has, configureBy, settled};
 ghost use Rattle.callcontrol.specs.Step.{carried, asOutcome};
-ghost use Rattle.small.specs.Entry.{widthOf, body, spell, spelled, entryBytes};
-ghost use Rattle.small.specs.Places.{timerAt, numberAt, placeBytes, placesFrom, othersFit, numberOf, pduOf, othersBy, Alike};
+ghost use Rattle.small.specs.Entry.{STOP, widthOf, body, spell, spelled, entryBytes, entries};
+ghost use Rattle.small.specs.Places.{timerAt, placeBytes, placesFrom, numberOf, pduOf, ordered, tellsPlane, startsAt, stopsAt, ranAt, started, stopOf, runsOf, turned, turns, numberAfter, numberIn, codeOf, Alike};
 use callcontrol::call::Call;
+use callcontrol::call::T310;
+use callcontrol::call::T311;
 use callcontrol::row::CANCEL;
+use callcontrol::row::EXPIRED_301;
+use callcontrol::row::OVER;
 use callcontrol::row::PLANE_1;
 use callcontrol::row::Row;
 use callcontrol::row::SETUP_INDICATION;
 use callcontrol::row::U_SETUP;
 use callcontrol::settle::next_by;
-use callcontrol::settle::timing_by;
 use callcontrol::step::Answer;
 use callcontrol::step::Stepped;
 use callcontrol::step::refuse;
@@ -52,31 +55,79 @@ const THIRD: u32 = 256;
 
 const FOURTH: u32 = 4096;
 
-// The paper's table of messages: none; the U-PDUs and the user primitives in the order of a row's digits; STOP, START, CONFIGURE and CANCEL; U-SETUP with slots.
-const MESSAGES: [u32; 22] = [
-    0,
-    0x501 * KIND + 10 * SIZE + A + D * SECOND + Q * THIRD,
-    0x502 * KIND + 6 * SIZE + I,
-    0x503 * KIND + 7 * SIZE + I + TOLD * SECOND,
-    0x504 * KIND + 6 * SIZE + I,
-    0x506 * KIND + 6 * SIZE + I,
-    0x507 * KIND + 6 * SIZE + I,
-    0x508 * KIND + 11 * SIZE + I + A * SECOND + Q * THIRD,
-    0x701 * KIND + 11 * SIZE + I + A * SECOND + D * THIRD,
-    0x702 * KIND + 7 * SIZE + I + TOLD * SECOND,
-    0x703 * KIND + 4 * SIZE,
-    0x704 * KIND + 4 * SIZE,
-    0x705 * KIND + 5 * SIZE + TOLD,
-    0x706 * KIND + 5 * SIZE + TOLD,
-    0x707 * KIND + 4 * SIZE,
-    0x708 * KIND + 5 * SIZE + TOLD,
-    0x709 * KIND + 6 * SIZE + D + S * SECOND,
-    0x601 * KIND + 6 * SIZE + N,
-    0x602 * KIND + 7 * SIZE + N + O * SECOND,
-    0x603 * KIND + 5 * SIZE + P,
-    0x604 * KIND + 4 * SIZE,
-    0x501 * KIND + 11 * SIZE + A + D * SECOND + Q * THIRD + TOLD * FOURTH,
-];
+// The paper's table of messages, without the first, which is none: the U-PDUs and the user primitives in the order of a row's digits; STOP, START, CONFIGURE and CANCEL; U-SETUP with slots.
+const MESSAGE_1: u32 = 0x501 * KIND + 10 * SIZE + A + D * SECOND + Q * THIRD;
+
+const MESSAGE_2: u32 = 0x502 * KIND + 6 * SIZE + I;
+
+const MESSAGE_3: u32 = 0x503 * KIND + 7 * SIZE + I + TOLD * SECOND;
+
+const MESSAGE_4: u32 = 0x504 * KIND + 6 * SIZE + I;
+
+const MESSAGE_5: u32 = 0x506 * KIND + 6 * SIZE + I;
+
+const MESSAGE_6: u32 = 0x507 * KIND + 6 * SIZE + I;
+
+const MESSAGE_7: u32 = 0x508 * KIND + 11 * SIZE + I + A * SECOND + Q * THIRD;
+
+const MESSAGE_8: u32 = 0x701 * KIND + 11 * SIZE + I + A * SECOND + D * THIRD;
+
+const MESSAGE_9: u32 = 0x702 * KIND + 7 * SIZE + I + TOLD * SECOND;
+
+const MESSAGE_10: u32 = 0x703 * KIND + 4 * SIZE;
+
+const MESSAGE_11: u32 = 0x704 * KIND + 4 * SIZE;
+
+const MESSAGE_12: u32 = 0x705 * KIND + 5 * SIZE + TOLD;
+
+const MESSAGE_13: u32 = 0x706 * KIND + 5 * SIZE + TOLD;
+
+const MESSAGE_14: u32 = 0x707 * KIND + 4 * SIZE;
+
+const MESSAGE_15: u32 = 0x708 * KIND + 5 * SIZE + TOLD;
+
+const MESSAGE_16: u32 = 0x709 * KIND + 6 * SIZE + D + S * SECOND;
+
+const MESSAGE_17: u32 = 0x601 * KIND + 6 * SIZE + N;
+
+const MESSAGE_18: u32 = 0x602 * KIND + 7 * SIZE + N + O * SECOND;
+
+const MESSAGE_19: u32 = 0x603 * KIND + 5 * SIZE + P;
+
+const MESSAGE_20: u32 = 0x604 * KIND + 4 * SIZE;
+
+const MESSAGE_21: u32 = 0x501 * KIND + 11 * SIZE + A + D * SECOND + Q * THIRD + TOLD * FOURTH;
+
+// A message by its number, 0 for none. By a `match` the compiler makes one static table of them.
+fn message_at(n: usize) -> u32
+    ensures { λ r. ⌜ r ≡ getD entries n 0 ⌝ }
+{
+    match n {
+        0 => 0,
+        1 => MESSAGE_1,
+        2 => MESSAGE_2,
+        3 => MESSAGE_3,
+        4 => MESSAGE_4,
+        5 => MESSAGE_5,
+        6 => MESSAGE_6,
+        7 => MESSAGE_7,
+        8 => MESSAGE_8,
+        9 => MESSAGE_9,
+        10 => MESSAGE_10,
+        11 => MESSAGE_11,
+        12 => MESSAGE_12,
+        13 => MESSAGE_13,
+        14 => MESSAGE_14,
+        15 => MESSAGE_15,
+        16 => MESSAGE_16,
+        17 => MESSAGE_17,
+        18 => MESSAGE_18,
+        19 => MESSAGE_19,
+        20 => MESSAGE_20,
+        21 => MESSAGE_21,
+        _ => 0,
+    }
+}
 
 // How many U-PDUs and user primitives there are, and the entries behind them.
 const U_PDUS: u64 = 7;
@@ -87,13 +138,16 @@ const STOP: usize = 17;
 
 const START: usize = 18;
 
-const CONFIGURE: u64 = 19;
+const CONFIGURE: usize = 19;
 
-const CONFIGURE_DIGIT: u64 = CONFIGURE * 1024;
-
-const CANCELLING: u64 = 20;
+const CANCELLING: usize = 20;
 
 const SETUP_WITH_SLOTS: u64 = 21;
+
+// The bits of a row's orders that stop T301 and start it; those of the other timers follow them.
+const STOPS: usize = 28;
+
+const STARTS: usize = 36;
 
 fn store(out: &mut [u8], at: usize, b: u8)
     ensures { λ _. ⌜ now (out .exit) ≡ set (now (out .entry)) at b ⌝ }
@@ -190,68 +244,146 @@ fn lay_place(k: usize, n: usize, v: &mut [u32; 10], out: &mut [u8], at: usize) -
     let code = code_at(k, v[0]);
     v[6] = timer_at(k % 9);
     v[7] = code;
-    lay_entry(MESSAGES[n], v, out, at)
+    lay_entry(message_at(n), v, out, at)
 }
 
-// STOPs by rising number, CANCEL, U-PDU, STARTs by rising number, CONFIGURE, user primitive.
-fn number_at(k: usize, stops: &[bool; 7], starts: &[bool; 7], others: u64) -> usize
-    requires { ⌜ (k < 18) × othersFit others ⌝ }
-    ensures { λ r. ⌜ r ≡ numberAt (now (stops .entry)) (now (starts .entry)) others k ⌝ }
+// Whether an order of one bit is in the sum.
+fn ordered(n: u64, bit: usize) -> bool
+    requires { ⌜ bit < 64 ⌝ }
+    ensures { λ r. ⌜ r ≡ ordered n bit ⌝ }
+{
+    (n >> bit) % 2 == 1
+}
+
+// Whether a plane is told that the call does not have already; T311 goes with it.
+fn tells_plane(n: u64) -> bool
+    ensures { λ r. ⌜ r ≡ tellsPlane n ⌝ }
+{
+    let p = n / PLANE_1 % 16;
+    (p != 0) & (p != 5)
+}
+
+// Whether a timer is started, where `bit` orders it: T310 only with a limit, T311 with plane 1.
+fn starts_at(k: usize, bit: bool, code: u8, configure: u8, told: bool) -> bool
+    ensures { λ r. ⌜ r ≡ startsAt k bit code configure told ⌝ }
+{
+    if k == T311 {
+        return told & (configure == 1);
+    }
+    if k == T310 {
+        return bit & (code != 0);
+    }
+    bit
+}
+
+// Whether it is stopped, unless it is started.
+fn stops_at(k: usize, bit: bool, start: bool, told: bool) -> bool
+    ensures { λ r. ⌜ r ≡ stopsAt k bit start told ⌝ }
+{
+    if k == T311 {
+        return bit | told;
+    }
+    if k == T310 {
+        return bit | start;
+    }
+    bit
+}
+
+// Whether it ran until now; an expired timer did not.
+fn ran_at(k: usize, n: u64, held: bool) -> bool
+    requires { ⌜ k < 7 ⌝ }
+    ensures { λ r. ⌜ r ≡ ranAt k n held ⌝ }
+{
+    held & (n / EXPIRED_301 % 16 != (k as u64) + 1)
+}
+
+// A timer's turn: its STOP or none, and whether it runs then.
+fn turn(k: usize, n: u64, code: u8, configure: u8, running: &mut [bool; 7]) -> usize
+    requires { ⌜ k < 7 ⌝ }
+    ensures { λ r. ⌜ r ≡ cond (stopOf n code configure (getD (now (running .entry)) k false) k) STOP 0 ⌝ }
+    ensures { λ r. ⌜ r < 22 ⌝ }
+    ensures { λ _. ⌜ now (running .exit) ≡ set (now (running .entry)) k (runsOf n code configure (getD (now (running .entry)) k false) k) ⌝ }
+{
+    let told = tells_plane(n);
+    let bit = ordered(n, STARTS + k);
+    let start = starts_at(k, bit, code, configure, told);
+    let stop = stops_at(k, ordered(n, STOPS + k), bit, told);
+    let ran = ran_at(k, n, running[k]);
+    running[k] = start | (ran & !stop);
+    when(ran & stop & !start, STOP)
+}
+
+// What follows the STOPs: CANCEL, U-PDU, STARTs by rising number, CONFIGURE, user primitive.
+fn number_at(k: usize, n: u64, code: u8, value: u8, configure: u8) -> usize
+    requires { ⌜ (6 < k) × (k < 18) ⌝ }
+    ensures { λ r. ⌜ r ≡ numberAfter (started n code configure (k - 9)) n value configure k ⌝ }
     ensures { λ r. ⌜ r < 22 ⌝ }
 {
-    if k < 7 {
-        return if stops[k] { STOP } else { 0 };
-    }
     if k == 7 {
-        return (others % 32) as usize;
+        return when(cancels(n), CANCELLING);
     }
     if k == 8 {
-        return (others / 32 % 32) as usize;
+        return pdu_of(n / U_SETUP % 16, value) as usize;
     }
     if k < 16 {
-        return if starts[k - 9] { START } else { 0 };
+        let told = tells_plane(n);
+        let start = starts_at(k - 9, ordered(n, STARTS + (k - 9)), code, configure, told);
+        return when(start, START);
     }
     if k == 16 {
-        return (others / 1024 % 32) as usize;
+        return when(configure != 0, CONFIGURE);
     }
-    (others / 32768 % 32) as usize
+    number_of(n / SETUP_INDICATION % 16, PRIMITIVES, U_PDUS) as usize
+}
+
+// The message at a place, and the timers then: STOPs by rising number, and what follows them.
+fn number_for(
+    k: usize,
+    n: u64,
+    code: u8,
+    value: u8,
+    configure: u8,
+    running: &mut [bool; 7],
+) -> usize
+    requires { ⌜ k < 18 ⌝ }
+    ensures { λ r. ⌜ r ≡ numberIn n code value configure (now (running .entry)) k ⌝ }
+    ensures { λ r. ⌜ r < 22 ⌝ }
+    ensures { λ _. ⌜ now (running .exit) ≡ turned n code configure k (now (running .entry)) ⌝ }
+{
+    if k < 7 {
+        return turn(k, n, code, configure, running);
+    }
+    number_at(k, n, code, value, configure)
 }
 
 fn lay_all(
-    stops: &[bool; 7],
-    starts: &[bool; 7],
-    others: u64,
+    n: u64,
+    code: u8,
+    value: u8,
+    configure: u8,
+    running: &mut [bool; 7],
     v: &mut [u32; 10],
     out: &mut [u8],
 ) -> usize
-    requires { ⌜ othersFit others ⌝ }
-    ensures { λ r. ⌜ Stored (now (out .entry)) 0 (placesFrom 18 0 (numberAt (now (stops .entry)) (now (starts .entry)) others) (now (v .entry))) r (now (out .exit)) ⌝ }
-    ensures { λ r. ⌜ Alike (now (v .exit)) (now (v .entry)) ⌝ }
+    ensures { λ r. ⌜ Stored (now (out .entry)) 0 (placesFrom 18 0 (numberIn n code value configure (now (running .entry))) (now (v .entry))) r (now (out .exit)) ⌝ }
+    ensures { λ r. ⌜ r ≤ 360 ⌝ }
+    ensures { λ _. ⌜ now (running .exit) ≡ turns n code configure 18 0 (now (running .entry)) ⌝ }
 {
     let mut at: usize = 0;
     let mut k: usize = 0;
     while k < 18 {
-        let n = number_at(k, stops, starts, others);
-        at = lay_place(k, n, v, out, at);
+        let m = number_for(k, n, code, value, configure, running);
+        at = lay_place(k, m, v, out, at);
         k = k + 1;
     }
     at
 }
 
-// How many bytes the messages take: they are laid into no room at all.
-fn count(
-    stops: &[bool; 7],
-    starts: &[bool; 7],
-    others: u64,
-    v: &mut [u32; 10],
-    out: &mut [u8],
-) -> usize
-    requires { ⌜ othersFit others ⌝ }
-    ensures { λ r. ⌜ r ≡ length (placesFrom 18 0 (numberAt (now (stops .entry)) (now (starts .entry)) others) (now (v .entry))) ⌝ }
-    ensures { λ r. ⌜ now (out .exit) ≡ now (out .entry) ⌝ }
-    ensures { λ r. ⌜ Alike (now (v .exit)) (now (v .entry)) ⌝ }
+// Room for what eighteen places take, whatever stands there.
+fn own_room() -> [u8; 360]
+    ensures { λ r. ⌜ 360 ≡ length r ⌝ }
 {
-    lay_all(stops, starts, others, v, &mut out[0..0])
+    [0; 360]
 }
 
 fn number_of(digit: u64, most: u64, before: u64) -> u64
@@ -280,7 +412,7 @@ fn pdu_of(digit: u64, value: u8) -> u64
     number_of(digit, U_PDUS, 0)
 }
 
-fn when(flag: bool, n: u64) -> u64
+fn when(flag: bool, n: usize) -> usize
     ensures { λ r. ⌜ r ≡ cond flag n 0 ⌝ }
     ensures { λ r. ⌜ r ≤ n ⌝ }
 {
@@ -291,16 +423,6 @@ fn cancels(n: u64) -> bool
     ensures { λ r. ⌜ r ≡ has n 0x1000000 ⌝ }
 {
     n / CANCEL % 2 == 1
-}
-
-fn others_by(n: u64, value: u8, configure: u8) -> u64
-    ensures { λ r. ⌜ r ≡ othersBy n value configure ⌝ }
-    ensures { λ r. ⌜ othersFit r ⌝ }
-{
-    when(cancels(n), CANCELLING)
-        + pdu_of(n / U_SETUP % 16, value) * 32
-        + when(configure != 0, CONFIGURE_DIGIT)
-        + number_of(n / SETUP_INDICATION % 16, PRIMITIVES, U_PDUS) * 32768
 }
 
 // The plane that CONFIGURE tells, 0 for none: the present one for 5, the kept one for 6.
@@ -317,21 +439,29 @@ fn configure_by(digit: u64, call: Call) -> u8
     digit as u8
 }
 
-// A row carried out: its messages counted first, and stored only where they fit.
+// The call's timers, of which there are seven.
+fn timers_of(call: Call) -> [bool; 7]
+    ensures { λ r. ⌜ r ≡ call .timers ⌝ }
+    ensures { λ _. ⌜ length (call .timers) ≡ 7 ⌝ }
+{
+    call.timers
+}
+
+// A call that has ended holds no code.
+fn code_of(n: u64, code: u8) -> u8
+    ensures { λ r. ⌜ r ≡ codeOf n code ⌝ }
+{
+    if n % 16 == OVER { 0 } else { code }
+}
+
+// A row carried out: its messages are laid in a room of our own first, and copied only where they fit.
 pub fn carry_row(call: Call, row: Row, buffer: &mut [u8]) -> Stepped
     ensures { λ r. ⌜ asOutcome r (now (buffer .exit)) ≡ carried call (settled call row) (now (buffer .entry)) ⌝ }
 {
     let n = row.orders;
-    let held = call.timers;
     let configure = configure_by(n / PLANE_1 % 16, call);
-    let timing = timing_by(n, row.code, held, configure);
-    let running = timing.running;
-    let stops = timing.stops;
-    let starts = timing.starts;
-    let next = next_by(call, row, configure, running);
-    let others = others_by(n, row.value, configure);
     let mut values: [u32; 10] = [
-        next.code as u32,
+        code_of(n, row.code) as u32,
         row.id as u32,
         row.address,
         row.mode as u32,
@@ -342,15 +472,25 @@ pub fn carry_row(call: Call, row: Row, buffer: &mut [u8]) -> Stepped
         configure as u32,
         row.slots as u32,
     ];
-    let size = count(&stops, &starts, others, &mut values, buffer);
+    let mut running = timers_of(call);
+    let mut own = own_room();
+    let size = lay_all(
+        n,
+        row.code,
+        row.value,
+        configure,
+        &mut running,
+        &mut values,
+        &mut own,
+    );
     if buffer.len() < size {
         return refuse(Answer::NoRoom, 0, call);
     }
-    lay_all(&stops, &starts, others, &mut values, buffer);
+    bytes::copy(&own[..size], buffer);
     Stepped {
         answer: Answer::Taken,
         place: 0,
         count: size,
-        call: next,
+        call: next_by(call, row, configure, running),
     }
 }

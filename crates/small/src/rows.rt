@@ -22,10 +22,10 @@ use crate::table::AT_UP;
 use crate::table::AT_WAIT;
 use crate::table::IF;
 use crate::table::ON;
-use crate::table::ROWS;
 use crate::table::STORE_A_D;
 use crate::table::STORE_I;
 use crate::table::TOLD;
+use crate::table::row_at;
 use callcontrol::call::Call;
 use callcontrol::call::Path;
 use callcontrol::call::State;
@@ -64,9 +64,9 @@ pub fn situation(call: Call) -> u64
 }
 
 // Whether a row is for this place, event and these facts.
-fn fits(row: u64, situation: u64, kind: u64, facts: [bool; 8]) -> bool
+fn fits(row: u64, situation: u64, kind: u64, facts: &[bool; 8]) -> bool
     requires { ⌜ 0 < situation ⌝ }
-    ensures { λ r. ⌜ r ≡ fits situation kind facts row ⌝ }
+    ensures { λ r. ⌜ r ≡ fits situation kind (now (facts .entry)) row ⌝ }
 {
     if row / ON % 32 == kind {
         if row / situation % 2 == 1 {
@@ -78,13 +78,13 @@ fn fits(row: u64, situation: u64, kind: u64, facts: [bool; 8]) -> bool
 }
 
 // The first row that fits, or 0.
-pub fn found(situation: u64, kind: u64, facts: [bool; 8]) -> u64
+pub fn found(situation: u64, kind: u64, facts: &[bool; 8]) -> u64
     requires { ⌜ 0 < situation ⌝ }
-    ensures { λ r. ⌜ r ≡ firstOf situation kind facts rows ⌝ }
+    ensures { λ r. ⌜ r ≡ firstOf situation kind (now (facts .entry)) rows ⌝ }
 {
-    let mut k: usize = 0;
+    let mut k = kind;
     while k < 38 {
-        let row = ROWS[k];
+        let row = row_at(k);
         if fits(row, situation, kind, facts) {
             return row;
         }
@@ -267,7 +267,8 @@ pub fn table_row(call: Call, e: Flat) -> Row
     requires { ⌜ e .timer < 7 ⌝ }
     ensures { λ r. ⌜ r ≡ tableRow call e ⌝ }
 {
-    let n = found(situation(call), e.kind, facts(call, e));
+    let known = facts(call, e);
+    let n = found(situation(call), e.kind, &known);
     if n == 0 {
         return Row::none();
     }

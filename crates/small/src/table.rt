@@ -2,6 +2,9 @@
 // must hold beside it, then the next state and the orders (of callcontrol's row.rt, as they are), what is stored and what is told. The
 // first row that fits is taken, so a row with a condition stands before the one without. What the event alone says is in no row: which
 // timer expired, whether T310 starts anew (r of D-INFO and D-CALL RESTORE), and the slots, which are stored where it brings some.
+ghost use mathlib.Core.Path.{_≡_};
+ghost use lib.ListN.{getD};
+ghost use Rattle.small.specs.Table.{rows};
 use crate::flat::BREAK;
 use crate::flat::D_ALERT;
 use crate::flat::D_CALL_PROCEEDING;
@@ -217,89 +220,216 @@ pub const TELL_G: u64 = 9 * TOLD;
 
 pub const TELL_S: u64 = 10 * TOLD;
 
-pub const ROWS: [u64; 38] = [
-    // IDLE.
-    AT_IDLE
-        + ON_SETUP_REQUEST
-        + MO_CALL_SETUP
-        + STORE_A_D
-        + ASKED_GIVEN
-        + U_SETUP
-        + TELL_S
-        + START_303,
-    AT_IDLE + ON_D_SETUP + MT_CALL_SETUP + STORE_I + STORE_A_D + SETUP_INDICATION,
-    // MO-CALL-SETUP. The first also in CALL-DISCONNECT.
-    AT_MO + AT_DISCONNECT + ON_REPORT_SENT + IF_UNSENT + STAY + SENT,
-    AT_MO + ON_REPORT_FAILED + IF_UNSENT + STOP_303 + RELEASE_INDICATION + C_4 + OVER,
-    AT_MO + ON_D_CALL_PROCEEDING + STAY + STORE_I + SENT + STOP_303 + START_302 + PROCEED,
-    AT_MO + ON_D_ALERT + STAY + STORE_I + SENT + STOP_303 + START_302 + ALERT,
-    AT_MO
-        + ON_D_CONNECT
-        + CALL_ACTIVE
-        + STORE_I
-        + STORE_A_D
-        + SENT
-        + STOP_302
-        + STOP_303
-        + START_310
-        + BY_G_OR_OFF
-        + ASKED_BY_G
-        + SETUP_CONFIRM
-        + TELL_G,
-    AT_MO + ON_RELEASE_REQUEST + IF_UNSENT + CANCEL + STOP_303 + RELEASE_CONFIRM + OVER,
-    // MT-CALL-SETUP.
-    AT_MT + ON_SETUP_RESPONSE + IF_T301_STOPPED + STAY + U_CONNECT + START_301,
-    AT_MT
-        + ON_D_CONNECT_ACKNOWLEDGE
-        + IF_T301_RUNS
-        + CALL_ACTIVE
-        + STOP_301
-        + START_310
-        + BY_G_OR_OFF
-        + ASKED_BY_G
-        + COMPLETE
-        + TELL_G,
-    // CALL-ACTIVE, path up.
-    AT_UP + ON_TX_REQUEST + IF_DEMAND + STAY + U_TX_DEMAND + ASKED_1,
-    AT_UP + ON_TX_REQUEST + IF_CEASE_IN_PLANE_1 + STAY + U_TX_CEASED + PLANE_OFF,
-    AT_UP + ON_TX_REQUEST + IF_CEASE_ASKED + STAY + U_TX_CEASED + ASKED_0,
-    AT_UP + ON_D_INFO + IF_SAME_D + STAY + STORE_A_D + SAME_PLANE + MODIFY_INDICATION,
-    AT_UP + ON_D_INFO + STAY + STORE_A_D + PLANE_OFF + MODIFY_INDICATION,
-    AT_UP + ON_D_TX_GRANTED + STAY + BY_G + ASKED_BY_G + TX_INDICATION + TELL_G,
-    AT_UP + ON_D_TX_CEASED + STAY + PLANE_OFF + TX_INDICATION + X_4,
-    AT_UP + ON_D_TX_INTERRUPT + IF_G_3 + STAY + PLANE_2 + TX_INDICATION + X_5,
-    AT_UP + ON_D_TX_INTERRUPT + STAY + PLANE_OFF + TX_INDICATION + X_5,
-    AT_UP + ON_D_TX_WAIT + WAIT + PLANE_OFF + TX_INDICATION + X_6,
-    AT_UP + ON_BREAK + STAY + BROKEN + PLANE_OFF + ASKED_IF_TALKING,
-    AT_UP + ON_EXPIRY_311 + STAY + U_TX_CEASED + PLANE_OFF,
-    // CALL-ACTIVE, broken.
-    AT_BROKEN + ON_TX_REQUEST + IF_CHANGES_ASKED + STAY + ASKED_GIVEN,
-    AT_BROKEN + ON_RESUME + STAY + ASKED_NEEDED + RESTORING + U_CALL_RESTORE + START_306,
-    // CALL-ACTIVE, restoring.
-    AT_RESTORING + ON_BREAK + STAY + STOP_306 + BROKEN + PLANE_OFF,
-    AT_RESTORING
-        + ON_D_CALL_RESTORE
-        + STAY
-        + STOP_306
-        + UP
-        + BY_G
-        + ASKED_BY_G
-        + TX_INDICATION
-        + TELL_G,
-    // WAIT.
-    AT_WAIT + ON_D_TX_CONTINUE + IF_K_1 + CALL_ACTIVE + KEPT_PLANE + TX_INDICATION + X_7,
-    AT_WAIT + ON_D_TX_CONTINUE + CALL_ACTIVE + PLANE_OFF + TX_INDICATION + X_8,
-    AT_WAIT + ON_BREAK + CALL_ACTIVE + BROKEN + PLANE_OFF + TX_INDICATION + X_8,
-    // Release, by this side.
-    AT_CALL + ON_RELEASE_REQUEST + RELEASE + ASKED_0 + C_1,
-    AT_CALL + ON_EXPIRY + RELEASE + ASKED_0 + C_2 + RELEASE_INDICATION,
-    // CALL-DISCONNECT.
-    AT_DISCONNECT + ON_REPORT_FAILED + IF_UNSENT + CONFIRMED,
-    AT_DISCONNECT + ON_EXPIRY_308 + CONFIRMED,
-    AT_DISCONNECT + ON_D_DISCONNECT + IF_UNSENT + CANCEL + ENDED + C_3 + U_RELEASE + STORE_I,
-    AT_DISCONNECT + ON_D_RELEASE + IF_UNSENT + CANCEL + ENDED + C_3,
-    AT_DISCONNECT + ON_D_RELEASE + CONFIRMED,
-    // Release, by the network.
-    AT_CALL + AT_DISCONNECT + ON_D_DISCONNECT + ENDED + C_3 + U_RELEASE + STORE_I,
-    AT_CALL + ON_D_RELEASE + ENDED + C_3,
-];
+// The rows, in the order of the events. Each event has a row, so its first one is not before the place of its own number.
+
+// User events.
+
+const ROW_0: u64 = AT_IDLE
+    + ON_SETUP_REQUEST
+    + MO_CALL_SETUP
+    + STORE_A_D
+    + ASKED_GIVEN
+    + U_SETUP
+    + TELL_S
+    + START_303;
+
+const ROW_1: u64 = AT_MT + ON_SETUP_RESPONSE + IF_T301_STOPPED + STAY + U_CONNECT + START_301;
+
+const ROW_2: u64 = AT_MO
+    + ON_RELEASE_REQUEST
+    + IF_UNSENT
+    + CANCEL
+    + STOP_303
+    + RELEASE_CONFIRM
+    + OVER;
+
+const ROW_3: u64 = AT_CALL + ON_RELEASE_REQUEST + RELEASE + ASKED_0 + C_1;
+
+const ROW_4: u64 = AT_UP + ON_TX_REQUEST + IF_DEMAND + STAY + U_TX_DEMAND + ASKED_1;
+
+const ROW_5: u64 = AT_UP + ON_TX_REQUEST + IF_CEASE_IN_PLANE_1 + STAY + U_TX_CEASED + PLANE_OFF;
+
+const ROW_6: u64 = AT_UP + ON_TX_REQUEST + IF_CEASE_ASKED + STAY + U_TX_CEASED + ASKED_0;
+
+const ROW_7: u64 = AT_BROKEN + ON_TX_REQUEST + IF_CHANGES_ASKED + STAY + ASKED_GIVEN;
+
+// Network events, in the order of a call.
+
+const ROW_8: u64 = AT_MO
+    + ON_D_CALL_PROCEEDING
+    + STAY
+    + STORE_I
+    + SENT
+    + STOP_303
+    + START_302
+    + PROCEED;
+
+const ROW_9: u64 = AT_MO + ON_D_ALERT + STAY + STORE_I + SENT + STOP_303 + START_302 + ALERT;
+
+const ROW_10: u64 = AT_MO
+    + ON_D_CONNECT
+    + CALL_ACTIVE
+    + STORE_I
+    + STORE_A_D
+    + SENT
+    + STOP_302
+    + STOP_303
+    + START_310
+    + BY_G_OR_OFF
+    + ASKED_BY_G
+    + SETUP_CONFIRM
+    + TELL_G;
+
+const ROW_11: u64 = AT_MT
+    + ON_D_CONNECT_ACKNOWLEDGE
+    + IF_T301_RUNS
+    + CALL_ACTIVE
+    + STOP_301
+    + START_310
+    + BY_G_OR_OFF
+    + ASKED_BY_G
+    + COMPLETE
+    + TELL_G;
+
+const ROW_12: u64 = AT_IDLE + ON_D_SETUP + MT_CALL_SETUP + STORE_I + STORE_A_D + SETUP_INDICATION;
+
+const ROW_13: u64 = AT_UP
+    + ON_D_INFO
+    + IF_SAME_D
+    + STAY
+    + STORE_A_D
+    + SAME_PLANE
+    + MODIFY_INDICATION;
+
+const ROW_14: u64 = AT_UP + ON_D_INFO + STAY + STORE_A_D + PLANE_OFF + MODIFY_INDICATION;
+
+const ROW_15: u64 = AT_UP + ON_D_TX_GRANTED + STAY + BY_G + ASKED_BY_G + TX_INDICATION + TELL_G;
+
+const ROW_16: u64 = AT_UP + ON_D_TX_CEASED + STAY + PLANE_OFF + TX_INDICATION + X_4;
+
+const ROW_17: u64 = AT_UP + ON_D_TX_INTERRUPT + IF_G_3 + STAY + PLANE_2 + TX_INDICATION + X_5;
+
+const ROW_18: u64 = AT_UP + ON_D_TX_INTERRUPT + STAY + PLANE_OFF + TX_INDICATION + X_5;
+
+const ROW_19: u64 = AT_UP + ON_D_TX_WAIT + WAIT + PLANE_OFF + TX_INDICATION + X_6;
+
+const ROW_20: u64 = AT_WAIT
+    + ON_D_TX_CONTINUE
+    + IF_K_1
+    + CALL_ACTIVE
+    + KEPT_PLANE
+    + TX_INDICATION
+    + X_7;
+
+const ROW_21: u64 = AT_WAIT + ON_D_TX_CONTINUE + CALL_ACTIVE + PLANE_OFF + TX_INDICATION + X_8;
+
+const ROW_22: u64 = AT_RESTORING
+    + ON_D_CALL_RESTORE
+    + STAY
+    + STOP_306
+    + UP
+    + BY_G
+    + ASKED_BY_G
+    + TX_INDICATION
+    + TELL_G;
+
+const ROW_23: u64 = AT_DISCONNECT
+    + ON_D_DISCONNECT
+    + IF_UNSENT
+    + CANCEL
+    + ENDED
+    + C_3
+    + U_RELEASE
+    + STORE_I;
+
+const ROW_24: u64 = AT_CALL + AT_DISCONNECT + ON_D_DISCONNECT + ENDED + C_3 + U_RELEASE + STORE_I;
+
+const ROW_25: u64 = AT_DISCONNECT + ON_D_RELEASE + IF_UNSENT + CANCEL + ENDED + C_3;
+
+const ROW_26: u64 = AT_DISCONNECT + ON_D_RELEASE + CONFIRMED;
+
+const ROW_27: u64 = AT_CALL + ON_D_RELEASE + ENDED + C_3;
+
+// Reports, the break of the radio link and its end.
+
+const ROW_28: u64 = AT_MO + AT_DISCONNECT + ON_REPORT_SENT + IF_UNSENT + STAY + SENT;
+
+const ROW_29: u64 = AT_MO
+    + ON_REPORT_FAILED
+    + IF_UNSENT
+    + STOP_303
+    + RELEASE_INDICATION
+    + C_4
+    + OVER;
+
+const ROW_30: u64 = AT_DISCONNECT + ON_REPORT_FAILED + IF_UNSENT + CONFIRMED;
+
+const ROW_31: u64 = AT_UP + ON_BREAK + STAY + BROKEN + PLANE_OFF + ASKED_IF_TALKING;
+
+const ROW_32: u64 = AT_RESTORING + ON_BREAK + STAY + STOP_306 + BROKEN + PLANE_OFF;
+
+const ROW_33: u64 = AT_WAIT + ON_BREAK + CALL_ACTIVE + BROKEN + PLANE_OFF + TX_INDICATION + X_8;
+
+const ROW_34: u64 = AT_BROKEN
+    + ON_RESUME
+    + STAY
+    + ASKED_NEEDED
+    + RESTORING
+    + U_CALL_RESTORE
+    + START_306;
+
+// Expiries.
+
+const ROW_35: u64 = AT_CALL + ON_EXPIRY + RELEASE + ASKED_0 + C_2 + RELEASE_INDICATION;
+
+const ROW_36: u64 = AT_DISCONNECT + ON_EXPIRY_308 + CONFIRMED;
+
+const ROW_37: u64 = AT_UP + ON_EXPIRY_311 + STAY + U_TX_CEASED + PLANE_OFF;
+
+// A row by its place, 0 behind the last. By a `match` the compiler makes one static table of them; an array would be built on the stack
+// where it is used.
+pub fn row_at(k: u64) -> u64
+    ensures { λ r. ⌜ r ≡ getD rows k 0 ⌝ }
+{
+    match k {
+        0 => ROW_0,
+        1 => ROW_1,
+        2 => ROW_2,
+        3 => ROW_3,
+        4 => ROW_4,
+        5 => ROW_5,
+        6 => ROW_6,
+        7 => ROW_7,
+        8 => ROW_8,
+        9 => ROW_9,
+        10 => ROW_10,
+        11 => ROW_11,
+        12 => ROW_12,
+        13 => ROW_13,
+        14 => ROW_14,
+        15 => ROW_15,
+        16 => ROW_16,
+        17 => ROW_17,
+        18 => ROW_18,
+        19 => ROW_19,
+        20 => ROW_20,
+        21 => ROW_21,
+        22 => ROW_22,
+        23 => ROW_23,
+        24 => ROW_24,
+        25 => ROW_25,
+        26 => ROW_26,
+        27 => ROW_27,
+        28 => ROW_28,
+        29 => ROW_29,
+        30 => ROW_30,
+        31 => ROW_31,
+        32 => ROW_32,
+        33 => ROW_33,
+        34 => ROW_34,
+        35 => ROW_35,
+        36 => ROW_36,
+        37 => ROW_37,
+        _ => 0,
+    }
+}

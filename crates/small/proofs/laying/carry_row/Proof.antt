@@ -1,41 +1,48 @@
--- The messages are counted, and laid where they fit.
-use mathlib.Core.Path.{_∙_, ap}
-use mathlib.Core.List.{List}
-use Prim.Native.Nat.{ℕ}
+-- The messages are laid in a room of our own, and copied where they fit.
+use mathlib.Core.Path.{_≡_}
+use native.Mathlib.Omega.{arith}
 use borrow.Author.Needs.{needs}
 use denote.Ref.{now}
 use lib.ListN.{length}
-use lib.Seq.{sets}
 use Rattle.callcontrol.specs.Settle.{settled}
 use Rattle.callcontrol.proofs.Carried.{too-long}
-use Rattle.small.specs.Places.{bytesBy}
-use Rattle.small.proofs.Places.{alike-places}
-use Rattle.small.proofs.Carrying.{whole, fitting}
+use Rattle.small.proofs.Own.{own-fits, front-size, front-within, sized, carries}
 use Rattle.small.proofs.laying.carry_row.Statement.{statement}
 use Rattle.small.proofs.laying.carry_row.Tie as tie
 
 returns : tie.Need-returns
-unfolding settled bytesBy
 returns c =
-    let s = c .before .before .before .before in
-    let a = s .before .before .before .before .before .before .before .before .before .before .before .before .before .before .before .before .before .before .before .before .args in
-    let all = rw (s .before .before .before .before .before .before .before .before .before .before .before .others-by .ensures .0, s .before .before .before .before .before .before .before .before .before .before .before .before .next-by .ensures, s .before .before .before .before .before .before .before .before .before .before .before .before .before .before .before .before .timing-by .ensures, s .before .before .before .before .before .before .before .before .before .before .before .before .before .before .before .before .before .configure-by .ensures) at (s .count .ensures .0) in
-    let size = all ∙ ap length (whole (a .call) (a .row)) in
-    rw (c .refuse .ensures, s .count .ensures .1 .0)
-    (too-long (a .call) (settled (a .call) (a .row)) (now (a .buffer)) _ size (rw (s .count .ensures .1 .0) at (c .before .if1 .taken)))
+    let x = c .before .before .before in
+    let a = x .before .before .before .before .before .before .before .before .before .before .before .before .before .before .args in
+    let t = x .before .before .before .before .before .timers-of in
+    let stored = rw (t .ensures .0, x .before .before .before .before .before .before .before .before .before .before .before .code-of .ensures, x .before .before .before .before .before .before .before .before .before .before .before .before .configure-by .ensures) at (x .lay-all .ensures .0) in
+    rw (c .refuse .ensures) (too-long (a .call) (settled (a .call) (a .row)) (now (a .buffer)) _ (sized (a .call) (a .row) (t .ensures .1) stored) (c .before .if1 .taken))
+
+array-share-prefix-own : tie.Need-array-share-prefix-own
+array-share-prefix-own c =
+    let x = c .before .before in
+    own-fits (x .lay-all .ensures .0) (x .lay-all .ensures .1 .0) (x .before .before .before .before .own-room .ensures)
+
+slice-aggregate-copy : tie.Need-slice-aggregate-copy
+slice-aggregate-copy c =
+    let x = c .before .before .before in
+    front-size _ _ (own-fits (x .lay-all .ensures .0) (x .lay-all .ensures .1 .0) (x .before .before .before .before .own-room .ensures))
+
+copy-requires : tie.Need-copy-requires
+copy-requires c κs =
+    let x = c .before .before .before .before in
+    front-within _ _ (now (x .before .before .before .before .before .before .before .before .before .before .before .before .before .before .args .buffer)) (own-fits (x .lay-all .ensures .0) (x .lay-all .ensures .1 .0) (x .before .before .before .before .own-room .ensures)) (c .before .before .if1 .left)
 
 returns-2 : tie.Need-returns-2
-unfolding settled bytesBy
 returns-2 c =
-    let s = c .before .before .before .before .before .before .before .before .before .before in
-    let a = s .before .before .before .before .before .before .before .before .before .before .before .before .before .before .before .before .before .before .before .before .args in
-    let l = c .before .before .lay-all in
-    let all = rw (s .before .before .before .before .before .before .before .before .before .before .before .others-by .ensures .0, s .before .before .before .before .before .before .before .before .before .before .before .before .next-by .ensures, s .before .before .before .before .before .before .before .before .before .before .before .before .before .before .before .before .timing-by .ensures, s .before .before .before .before .before .before .before .before .before .before .before .before .before .before .before .before .before .configure-by .ensures) at (s .count .ensures .0) in
-    let size = all ∙ ap length (whole (a .call) (a .row)) in
-    let stored = l .ensures .0 .now ∙ ap (λ (xs : List ℕ). sets (s .count .last .1 .1 .1 .1 .0) 0 xs) (alike-places (s .count .ensures .1 .1) 18 0 _) in
-    let laid = rw (s .before .before .before .before .before .before .before .before .before .before .before .others-by .ensures .0, s .before .before .before .before .before .before .before .before .before .before .before .before .next-by .ensures, s .before .before .before .before .before .before .before .before .before .before .before .before .before .before .before .before .timing-by .ensures, s .before .before .before .before .before .before .before .before .before .before .before .before .before .before .before .before .before .configure-by .ensures, s .count .ensures .1 .0) at stored in
-    rw (s .before .before .before .before .before .before .before .before .before .before .before .before .next-by .ensures, s .before .before .before .before .before .before .before .before .before .before .before .before .before .before .before .before .timing-by .ensures, s .before .before .before .before .before .before .before .before .before .before .before .before .before .before .before .before .before .configure-by .ensures)
-    (fitting (a .call) (settled (a .call) (a .row)) (now (a .buffer)) _ _ size (rw (s .count .ensures .1 .0) at (c .before .before .before .before .before .before .before .if1 .left)) (laid ∙ ap (λ (xs : List ℕ). sets (now (a .buffer)) 0 xs) (whole (a .call) (a .row))))
+    let x = c .before .before .before .before .before .before .before .before in
+    let a = x .before .before .before .before .before .before .before .before .before .before .before .before .before .before .args in
+    let p = x .before .before .before .before .before .before .before .before .before .before .before .before .configure-by .ensures in
+    let fits = own-fits (x .lay-all .ensures .0) (x .lay-all .ensures .1 .0) (x .before .before .before .before .own-room .ensures) in
+    let t = x .before .before .before .before .before .timers-of in
+    let stored = rw (t .ensures .0, x .before .before .before .before .before .before .before .before .before .before .before .code-of .ensures, p) at (x .lay-all .ensures .0) in
+    rw (c .next-by .ensures, p)
+    (carries (a .call) (a .row) (t .ensures .1) (now (a .buffer)) _ stored (rw (p, t .ensures .0) at (x .lay-all .ensures .1 .1)) (c .before .before .before .before .before .before .if1 .left) fits (c .before .before .before .copy .ensures .1))
 
 pub carry-row-spec : {M : Type 1} → statement M
 carry-row-spec =
@@ -43,8 +50,6 @@ carry-row-spec =
     (tie.spec
     (λ c κs. search needs)
     (λ c κs. search needs)
-    (λ c κs. search needs)
-    (λ c κs. search needs)
     (λ c. search needs)
     (λ c. search needs)
     (λ c. search needs)
@@ -55,7 +60,12 @@ carry-row-spec =
     (λ c κs. search needs)
     (λ c κs. search needs)
     (λ c. search needs)
+    (λ c κs. search needs)
+    (λ c κs. search needs)
     returns
+    array-share-prefix-own
+    slice-aggregate-copy
+    copy-requires
     (λ c κs. search needs)
     (λ c. search needs)
     returns-2)

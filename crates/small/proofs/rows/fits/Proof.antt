@@ -13,6 +13,6 @@ fits-spec =
     (tie.spec
     (λ c. search needs)
     (λ c. search needs)
-    (λ c. rw (eq-eqb _ _ (c .before .if1 .taken), eq-eqb _ _ (c .if2 .taken)) refl)
+    (λ c. rw (eq-eqb _ _ (c .before .before .if1 .taken), eq-eqb _ _ (c .before .if2 .taken)) refl)
     (λ c. rw (eq-eqb _ _ (c .before .if1 .taken), ne-eqb _ _ (c .if2 .left)) refl)
     (λ c. rw (ne-eqb _ _ (c .if1 .left)) refl))

@@ -15,6 +15,6 @@ table-row-spec =
     (λ c κs. search needs)
     (λ c κs. search needs)
     (λ c κs. search needs)
-    (λ c. rw (sym (rw (c .before .before .before .before .situation .ensures .0, c .before .before .before .facts .ensures) at (c .before .before .found .ensures)), eq-eqb _ _ (c .before .if1 .taken)) (c .none .ensures))
+    (λ c. rw (sym (rw (c .before .before .before .before .situation .ensures .0, c .before .before .before .before .before .facts .ensures) at (c .before .before .found .ensures)), eq-eqb _ _ (c .before .if1 .taken)) (c .none .ensures))
     (λ c κs. search needs)
-    (λ c. rw (sym (rw (c .before .before .before .before .situation .ensures .0, c .before .before .before .facts .ensures) at (c .before .before .found .ensures)), ne-eqb _ _ (c .before .if1 .left)) (c .row-by .ensures)))
+    (λ c. rw (sym (rw (c .before .before .before .before .situation .ensures .0, c .before .before .before .before .before .facts .ensures) at (c .before .before .found .ensures)), ne-eqb _ _ (c .before .if1 .left)) (c .row-by .ensures)))
