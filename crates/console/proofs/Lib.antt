@@ -3,6 +3,7 @@ pub mod Answers
 pub mod ByKeys
 pub mod Demands
 pub mod Determined
+pub mod EachPlace
 pub mod Eight
 pub mod Everywhere
 pub mod Heard

@@ -30,8 +30,14 @@ use Rattle.console.proofs.Heard.{messages-at}
 use Rattle.console.proofs.Turns.{run-append}
 use Rattle.console.proofs.Went.{went-routed}
 
+pub timers-by-messages-at : claims.TimersByMessagesAt
+timers-by-messages-at ts k lt = step-demands.timers-by-messages (claims.turnsAt k ts) ∙ ap (λ (c : Call). c .timers) (sym (records ts k lt))
+
 pub timers-at : claims.TimersAt
-timers-at ts k lt = step-demands.timers-by-messages (claims.turnsAt k ts) ∙ ap (λ (c : Call). c .timers) (sym (records ts k lt))
+timers-at ts k lt = rw (records ts k lt) (step-demands.timers (claims.turnsAt k ts))
+
+pub sent-before-t302-at : claims.SentBeforeT302At
+sent-before-t302-at ts k lt = rw (records ts k lt) (step-demands.sent-before-t302 (claims.turnsAt k ts))
 
 pub none-in-idle-at : claims.NoneInIdleAt
 none-in-idle-at ts k lt idle = step-demands.none-in-idle (claims.turnsAt k ts) (ap (λ (c : Call). isIdle c) (sym (records ts k lt)) ∙ idle)

@@ -1,12 +1,14 @@
 -- The witness's run goes as its lines say, and the room that it wants is wanted, by computation.
 use mathlib.Core.Path.{refl}
+use lib.Dec.{lit≤}
 use Rattle.demands.proofs.Computed.{computed}
 use Rattle.demands.specs.Demands.{restores, quiet}
+use Rattle.demands.specs.Clocks.{logIn, indexOf, noteMessage, noteMessages, noteExpiry, noteLog, runningBy}
 use Rattle.console.specs.Table.{holds, alike, tableSound}
 use Rattle.console.specs.Route.{atNamed, atLowestIdle, outgoing, incoming, atHolder, routeOf}
 use Rattle.console.specs.Console.{placed, atPlace, everywhere, consoleOf}
 use Rattle.console.specs.Runs.{consoleOutcome, consoleNext, consoleRun, wentTo, wentIn}
-use Rattle.console.specs.Witness.{shown, TwoCalls, RoomReached, PremisesMet}
+use Rattle.console.specs.Witness.{shown, TwoCalls, RoomReached, PremisesMet, ThreeDueMet}
 
 pub two-calls : TwoCalls
 unfolding shown computed holds alike tableSound atNamed atLowestIdle outgoing incoming atHolder routeOf placed atPlace everywhere consoleOf consoleOutcome consoleNext consoleRun
@@ -19,3 +21,11 @@ room-reached = (refl, refl)
 pub premises-met : PremisesMet
 unfolding computed restores quiet holds alike tableSound atNamed atLowestIdle outgoing incoming atHolder routeOf placed atPlace everywhere consoleOf consoleOutcome consoleNext consoleRun wentTo wentIn
 premises-met = record { went = refl; broke = refl; calm = refl; back = refl; restored = refl; came = refl; ended = refl }
+
+pub three-due-met : ThreeDueMet
+unfolding computed logIn indexOf noteMessage noteMessages noteExpiry noteLog runningBy holds alike tableSound atNamed atLowestIdle outgoing incoming atHolder routeOf placed atPlace everywhere consoleOf consoleOutcome consoleNext consoleRun wentTo wentIn
+three-due-met =
+    record {
+      due = (311, refl, refl, lit≤ tt, (310, refl, refl, lit≤ tt, (308, refl, refl, lit≤ tt, tt)));
+      three = refl;
+    }

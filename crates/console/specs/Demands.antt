@@ -1,7 +1,7 @@
--- What holds of every run of the console from eight fresh records, and some of it of every table, as types. proofs/Demands, Answering, Heard and Timers have a proof of each.
+-- What holds of every run of the console from eight fresh records, and some of it of every table, as types. proofs/Demands, Answering, Heard, Timers and EachPlace have a proof of each.
 use Prim.Native.Nat.{ℕ, _<_, _≤_}
 use mathlib.Core.Path.{_≡_}
-use mathlib.Core.Bool.{Bool, true, false}
+use mathlib.Core.Bool.{Bool, true, false, not}
 use mathlib.Core.List.{List, [], _∷_, _++_}
 use mathlib.Core.Option.{some}
 use lib.ListN.{length, take}
@@ -9,15 +9,18 @@ use lib.Seq.{sets}
 use Rattle.records.specs.declared.events.Event.{Event}
 use Rattle.records.specs.declared.events.Event.the-variants.{ReleaseRequest, DInfo, Break, Resume, DCallRestore, Expiry}
 use Rattle.records.specs.declared.messages.Message.{Message}
-use Rattle.records.specs.Tables.{taken, refused, read}
+use Rattle.records.specs.Tables.{taken, refused, read, fine}
 use Rattle.records.specs.Events.{events}
+use Rattle.records.specs.Messages.{messages}
+use Rattle.callcontrol.specs.declared.call.State.{State}
+use Rattle.callcontrol.specs.declared.call.Path.{Path}
 use Rattle.callcontrol.specs.declared.call.Call.{Call}
-use Rattle.callcontrol.specs.Call.{freshCall, isIdle, transmits}
+use Rattle.callcontrol.specs.Call.{freshCall, isIdle, runs, transmits, T302}
 use Rattle.callcontrol.specs.Writing.{bytesOf}
-use Rattle.demands.specs.Runs.{Turn, outcome, run, takenBy, takenIn, writtenIn, every?, told, ends, isUDisconnect, isURelease}
+use Rattle.demands.specs.Runs.{Turn, outcome, run, takenBy, takenIn, writtenIn, every?, told, ends, isUDisconnect, isURelease, isUInfo}
 use Rattle.demands.specs.Clocks.{logIn, runningBy, runsBy}
-use Rattle.demands.specs.History.{planeByHistory}
-use Rattle.demands.specs.Demands.{Reads, Restoration, quiet, oneCall, count, OnlyDue, AtRest, limits}
+use Rattle.demands.specs.History.{planeByHistory, idByHistory, slotsByHistory, carryNone}
+use Rattle.demands.specs.Demands.{Reads, Restoration, quiet, timersIn, oneCall, count, OnlyDue, AtRest, limits}
 use Rattle.console.specs.declared.route.Aim.{Aim}
 use Rattle.console.specs.declared.route.Route.{Route}
 use Rattle.console.specs.Table.{callAt, freshTable, some?, tableSound}
@@ -143,11 +146,62 @@ EndedAt =
     (ts : List ConsoleTurn) (t : ConsoleTurn) (k : ℕ) (v : Turn) → k < 8 → wentTo k (after ts) t ≡ v ∷ [] → ends (at k ts) v ≡ true →
     at k (ts ++ t ∷ []) ≡ freshCall
 
+-- and its U-plane off
+abbrev pub EndedOffAt : Type 0
+EndedOffAt =
+    (ts : List ConsoleTurn) (t : ConsoleTurn) (k : ℕ) (v : Turn) → k < 8 → wentTo k (after ts) t ≡ v ∷ [] → ends (at k ts) v ≡ true →
+    told (turnsAt k (ts ++ t ∷ [])) ≡ 4
+
 -- and from any state but IDLE there is no other way to it: no other place's event empties a place
 abbrev pub NoOtherEndAt : Type 0
 NoOtherEndAt =
     (ts : List ConsoleTurn) (t : ConsoleTurn) (k : ℕ) → k < 8 → isIdle (at k ts) ≡ false → isIdle (at k (ts ++ t ∷ [])) ≡ true →
     (v : Turn) × (wentTo k (after ts) t ≡ v ∷ []) × (ends (at k ts) v ≡ true)
+
+-- ---- slots per frame, for each place
+
+-- after the turn in which a call ends they are 1 again
+abbrev pub EndedOneSlotAt : Type 0
+EndedOneSlotAt =
+    (ts : List ConsoleTurn) (t : ConsoleTurn) (k : ℕ) (v : Turn) → k < 8 → wentTo k (after ts) t ≡ v ∷ [] → ends (at k ts) v ≡ true →
+    at k (ts ++ t ∷ []) .slots ≡ 1
+
+-- outside IDLE they are what the last of the events taken there to carry some carried, by the taken events alone
+abbrev pub SlottedAt : Type 0
+SlottedAt = (ts : List ConsoleTurn) (k : ℕ) → k < 8 → isIdle (at k ts) ≡ false → at k ts .slots ≡ slotsByHistory (takenIn freshCall (turnsAt k ts))
+
+-- from an IDLE record on they are 1 for as long as no event taken there carries any
+abbrev pub OneSlotAt : Type 0
+OneSlotAt =
+    (ts us : List ConsoleTurn) (k : ℕ) → k < 8 → isIdle (at k ts) ≡ true → carryNone (takenIn (at k ts) (wentIn k (after ts) us)) ≡ true →
+    at k (ts ++ us) .slots ≡ 1
+
+-- ---- in the client's words, for each place
+
+-- in IDLE its record is the fresh one
+abbrev pub IdleIsFreshAt : Type 0
+IdleIsFreshAt = (ts : List ConsoleTurn) (k : ℕ) → k < 8 → isIdle (at k ts) ≡ true → at k ts ≡ freshCall
+
+-- outside IDLE its identifier is the one that the network gave to its call, by the events taken there alone
+abbrev pub IdentifiedAt : Type 0
+IdentifiedAt = (ts : List ConsoleTurn) (k : ℕ) → k < 8 → isIdle (at k ts) ≡ false → at k ts .id ≡ idByHistory (takenIn freshCall (turnsAt k ts))
+
+-- it transmits (told 1 or 3) only in CALL-ACTIVE with path up, and with that identifier
+abbrev pub TransmitsAt : Type 0
+TransmitsAt =
+    (ts : List ConsoleTurn) (k : ℕ) → k < 8 → transmits (told (turnsAt k ts)) ≡ true →
+    (at k ts .state ≡ State.CallActive)
+    × (at k ts .path ≡ Path.Up)
+    × (at k ts .id ≡ idByHistory (takenIn freshCall (turnsAt k ts)))
+    × (at k ts .id ≡ 0 → ⊥)
+
+-- every message that is read for it has each field in its range
+abbrev pub WrittenInRangeAt : Type 0
+WrittenInRangeAt = (ts : List ConsoleTurn) (k : ℕ) → k < 8 → every? (λ m. fine messages m) (heardIn k freshTable ts) ≡ true
+
+-- and is not U-INFO
+abbrev pub NoUInfoAt : Type 0
+NoUInfoAt = (ts : List ConsoleTurn) (k : ℕ) → k < 8 → every? (λ m. not (isUInfo m)) (heardIn k freshTable ts) ≡ true
 
 -- ---- how much room to lend: all or none means that a host that lends less can get 7 for ever
 
@@ -180,8 +234,16 @@ Enough = (ts : List ConsoleTurn) (t : ConsoleTurn) → 184 ≤ length (t .buffer
 -- ---- request 10, for each place
 
 -- the timers that run by what a place wrote and the expiries that it took are those in its record
+abbrev pub TimersByMessagesAt : Type 0
+TimersByMessagesAt = (ts : List ConsoleTurn) (k : ℕ) → k < 8 → runningBy (logIn freshCall (turnsAt k ts)) ≡ at k ts .timers
+
+-- which are those of its state
 abbrev pub TimersAt : Type 0
-TimersAt = (ts : List ConsoleTurn) (k : ℕ) → k < 8 → runningBy (logIn freshCall (turnsAt k ts)) ≡ at k ts .timers
+TimersAt = (ts : List ConsoleTurn) (k : ℕ) → k < 8 → at k ts .timers ≡ timersIn (at k ts .state) (at k ts)
+
+-- T302 only once U-SETUP is known to be sent
+abbrev pub SentBeforeT302At : Type 0
+SentBeforeT302At = (ts : List ConsoleTurn) (k : ℕ) → k < 8 → runs (at k ts) T302 ≡ true → at k ts .sent ≡ 0 → ⊥
 
 -- and none runs in IDLE
 abbrev pub NoneInIdleAt : Type 0

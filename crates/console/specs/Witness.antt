@@ -1,18 +1,19 @@
--- That the claims are not true for the wrong reason: a run with two places at work, event by event, and eight calls cut and restored at once.
+-- That the claims are not true for the wrong reason: a run with two places at work, event by event, eight calls cut and restored at once, and a call
+-- that ends by its timers alone.
 use Prim.Native.Nat.{ℕ, zero, suc}
 use mathlib.Core.Path.{_≡_}
 use mathlib.Core.Bool.{Bool, true, _&&_}
 use mathlib.Core.List.{List, [], _∷_, _++_}
 use mathlib.Core.Option.{some}
 use lib.Dec.{eqb}
-use lib.ListN.{take, drop}
+use lib.ListN.{length, take, drop}
 use Rattle.records.specs.declared.events.Event.the-variants.{Break, DCallRestore}
 use Rattle.callcontrol.specs.declared.call.Call.{Call}
 use Rattle.callcontrol.specs.Call.{stateNumber, pathNumber}
 use Rattle.console.specs.Table.{callAt, freshTable}
 use Rattle.console.specs.Console.{ConsoleOutcome}
 use Rattle.demands.specs.Runs.{takenBy, ends}
-use Rattle.demands.specs.Demands.{quiet}
+use Rattle.demands.specs.Demands.{quiet, OnlyDue}
 use Rattle.console.specs.Runs.{ConsoleTurn, consoleOutcome, consoleRun, lentBehind, wentTo, wentIn}
 
 abbrev zeros : ℕ → List ℕ
@@ -132,3 +133,18 @@ pub record PremisesMet : Type 0 where
   pub restored : takenBy (callAt (tableAt 10) 0) (lentBehind 0 restores) ≡ some (DCallRestore 21 0 0 16)
   pub came : wentTo 1 (tableAt 11) releases ≡ lentBehind 0 releases ∷ []
   pub ended : ends (callAt (tableAt 11) 1) (lentBehind 0 releases) ≡ true
+
+-- ---- the premises of AtMostThreeDueAt and NoneAfterThreeAt, met by the first of the eight calls: T311 ends its transmission, T310 the call and T308 the
+-- release, while another call comes in
+
+abbrev pub expiries : List ConsoleTurn
+expiries =
+    turn 0 (6 ∷ 0 ∷ 1 ∷ 4 ∷ 55 ∷ 1 ∷ [])
+    ∷ turn 0 (11 ∷ 0 ∷ 5 ∷ 2 ∷ 30 ∷ 0 ∷ 9 ∷ 0 ∷ 0 ∷ 0 ∷ 0 ∷ [])
+    ∷ turn 0 (6 ∷ 0 ∷ 1 ∷ 4 ∷ 54 ∷ 1 ∷ [])
+    ∷ turn 0 (6 ∷ 0 ∷ 1 ∷ 4 ∷ 52 ∷ 1 ∷ [])
+    ∷ []
+
+pub record ThreeDueMet : Type 0 where
+  pub due : OnlyDue (wentIn 0 freshTable (comesIn 0)) (wentIn 0 (consoleRun freshTable (comesIn 0)) expiries)
+  pub three : length (wentIn 0 (consoleRun freshTable (comesIn 0)) expiries) ≡ 3
