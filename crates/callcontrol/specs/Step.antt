@@ -103,12 +103,12 @@ answerNumber Answer.Taken = 0
 answerNumber Answer.NotSound = 1
 answerNumber Answer.BadLength = 2
 answerNumber Answer.UnknownKind = 3
+answerNumber Answer.Retired = 9
 answerNumber Answer.BadBody = 4
 answerNumber Answer.OtherCall = 5
 answerNumber Answer.NoRow = 6
 answerNumber Answer.NoRoom = 7
 answerNumber Answer.OwnTransmission = 8
-answerNumber Answer.Retired = 9
 
 abbrev pub asOutcome : Stepped → List ℕ → Outcome
 asOutcome r buffer = record { answer = answerNumber (r .answer); place = r .place; call = r .call; count = r .count; buffer = buffer }

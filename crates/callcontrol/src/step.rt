@@ -13,7 +13,7 @@ use records::events::Event;
 use records::events::EventRead;
 use records::events::read_event;
 
-// What comes back, in the order of the numbers, so that a number is the place of its case.
+// What comes back.
 pub enum Answer {
     // 0: taken.
     Taken,
@@ -23,6 +23,8 @@ pub enum Answer {
     BadLength,
     // 3: the kind is no event kind.
     UnknownKind,
+    // 9, after 3 and before 4: the kind is retired.
+    Retired,
     // 4: body size or a field out of range.
     BadBody,
     // 5: a network event of another call.
@@ -33,8 +35,6 @@ pub enum Answer {
     NoRoom,
     // 8, after 6 and before 7: D-INFO over own transmission.
     OwnTransmission,
-    // 9, after 3 and before 4: the kind is retired.
-    Retired,
 }
 
 // The answer as the paper's number.
@@ -47,12 +47,12 @@ pub fn answer_number(answer: Answer) -> u8
         Answer::NotSound => 1,
         Answer::BadLength => 2,
         Answer::UnknownKind => 3,
+        Answer::Retired => 9,
         Answer::BadBody => 4,
         Answer::OtherCall => 5,
         Answer::NoRow => 6,
         Answer::NoRoom => 7,
         Answer::OwnTransmission => 8,
-        Answer::Retired => 9,
     }
 }
 
