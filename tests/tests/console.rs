@@ -793,7 +793,7 @@ fn nothing_beyond_the_lent_bytes_is_touched() {
 }
 
 #[test]
-fn a_step_uses_less_than_4_kibibytes_of_stack() {
+fn a_step_uses_less_than_2_kibibytes_of_stack() {
     let mut tape = Vec::new();
     for (place, event) in console_tape().events() {
         tape.extend((event.len() as u32).to_le_bytes());
@@ -803,5 +803,5 @@ fn a_step_uses_less_than_4_kibibytes_of_stack() {
     let bytes = stack_used("tests/bridge/stack_console.c", &tape);
     tell(&format!("{bytes} bytes of stack"));
     // A step that used next to nothing would not have been played.
-    assert!((64..4096).contains(&bytes), "{bytes} bytes of stack");
+    assert!((64..2048).contains(&bytes), "{bytes} bytes of stack");
 }

@@ -1,11 +1,13 @@
 -- The promises leave no choice: two results that a function's own `ensures` allows are equal, and so are the buffers that it leaves. `Learnt` is that `ensures` as a
--- caller learns it, of the arguments, the result, and the parameters when it returns. The two steps on a lent table are proved by walks and have none: there both sides
--- stand as their `ensures` has them.
+-- caller learns it, of the arguments, the result, and the parameters when it returns. The step of a place of a lent table is proved by a walk and has none: there both sides
+-- stand as its `ensures` has them.
 use Prim.Native.Nat.{ℕ, _<_}
 use mathlib.Core.Path.{_≡_, refl, sym, _∙_, ap}
 use mathlib.Core.List.{List, []}
 use native.Mathlib.Omega.{arith}
 use lib.Dec.{lit<}
+use lib.ListN.{set}
+use Rattle.records.specs.declared.events.Event.{Event}
 use denote.Ref.{now}
 use Rattle.callcontrol.specs.declared.call.Call.{Call}
 use Rattle.callcontrol.specs.declared.step.Answer.{Answer}
@@ -16,11 +18,11 @@ use Rattle.callcontrol.proofs.Determined as step-determined
 use Rattle.console.specs.declared.route.ConsoleAnswer.{ConsoleAnswer}
 use Rattle.console.specs.declared.route.Led.{Led}
 use Rattle.console.specs.declared.console.ConsoleStepped.{ConsoleStepped}
-use Rattle.console.specs.declared.lent.ConsoleTold.{ConsoleTold}
 use Rattle.console.specs.Route.{consoleNumber}
-use Rattle.console.specs.Console.{ConsoleOutcome, asConsole, consoleOf}
+use Rattle.console.specs.declared.console.SoFar.{SoFar}
+use Rattle.console.specs.Table.{callAt}
+use Rattle.console.specs.Console.{ConsoleOutcome, asConsole, nextOf, OneMore}
 use Rattle.console.specs.Keys.{asLead}
-use Rattle.console.specs.Lent.{asTold}
 use Rattle.console.proofs.console.console_step.Reads as console-step-promise
 use Rattle.console.proofs.console.everywhere.Reads as everywhere-promise
 use Rattle.console.proofs.console.place_step.Reads as place-step-promise
@@ -108,18 +110,17 @@ same-lead (Led.Refused a m) (Led.Refused b n) h =
 
 -- ---- the functions
 
-pub console-step-lent : (calls : List Call) (place : ℕ) (event buffer : List ℕ) (r₁ r₂ : ConsoleTold) (t₁ t₂ : List Call) (b₁ b₂ : List ℕ)
-    → asTold r₁ t₁ b₁ ≡ consoleOf calls place event buffer → asTold r₂ t₂ b₂ ≡ consoleOf calls place event buffer → (r₁ ≡ r₂) × ((t₁ ≡ t₂) × (b₁ ≡ b₂))
-console-step-lent calls place event buffer r₁ r₂ t₁ t₂ b₁ b₂ e₁ e₂ =
-    let e : asTold r₁ t₁ b₁ ≡ asTold r₂ t₂ b₂ = e₁ ∙ sym e₂ in
-    let answer = same (r₁ .answer) (r₂ .answer) (ap (λ (w : ConsoleOutcome). w .answer) e) in
-    let place = ap (λ (w : ConsoleOutcome). w .place) e in
-    let count = ap (λ (w : ConsoleOutcome). w .count) e in
-    (λ i. record { answer = answer i; place = place i; count = count i }, (ap (λ (w : ConsoleOutcome). w .calls) e, ap (λ (w : ConsoleOutcome). w .buffer) e))
+-- one place more: the table is in the promise of `step_at` alone
+same-more : (k : ℕ) (c : Call) (e : Event) (p : SoFar) (own : List ℕ) (u₁ u₂ s₁ s₂ : ℕ) (b₁ b₂ : List ℕ) → OneMore u₁ s₁ b₁ k c e p own → OneMore u₂ s₂ b₂ k c e p own
+    → (u₁ ≡ u₂) × ((s₁ ≡ s₂) × (b₁ ≡ b₂))
+same-more k c e p own u₁ u₂ s₁ s₂ b₁ b₂ m n = (m .last ∙ sym (n .last), (m .behind ∙ sym (n .behind), m .bytes ∙ sym (n .bytes)))
 
-pub console-step-over : (calls : List Call) (place : ℕ) (event buffer : List ℕ) (r₁ r₂ : ConsoleStepped) (b₁ b₂ : List ℕ)
-    → asConsole r₁ b₁ ≡ consoleOf calls place event buffer → asConsole r₂ b₂ ≡ consoleOf calls place event buffer → (r₁ ≡ r₂) × (b₁ ≡ b₂)
-console-step-over calls place event buffer r₁ r₂ b₁ b₂ e₁ e₂ = same-console _ r₁ r₂ b₁ b₂ e₁ e₂
+pub step-at : (calls : List Call) (k : ℕ) (e : Event) (p : SoFar) (own : List ℕ) (r₁ r₂ : SoFar) (t₁ t₂ : List Call) (b₁ b₂ : List ℕ)
+    → (t₁ ≡ set calls k (nextOf e (callAt calls k))) × OneMore (r₁ .upto) (r₁ .size) b₁ k (callAt calls k) e p own
+    → (t₂ ≡ set calls k (nextOf e (callAt calls k))) × OneMore (r₂ .upto) (r₂ .size) b₂ k (callAt calls k) e p own → (r₁ ≡ r₂) × ((t₁ ≡ t₂) × (b₁ ≡ b₂))
+step-at calls k e p own r₁ r₂ t₁ t₂ b₁ b₂ e₁ e₂ =
+    let m = same-more k (callAt calls k) e p own (r₁ .upto) (r₂ .upto) (r₁ .size) (r₂ .size) b₁ b₂ (e₁ .1) (e₂ .1) in
+    (λ i. record { upto = m .0 i; size = m .1 .0 i }, (e₁ .0 ∙ sym (e₂ .0), m .1 .1))
 
 pub console-step : (κs : _) (a : _) (r₁ r₂ : _) (e₁ e₂ : _) → console-step-promise.Learnt κs a r₁ e₁ → console-step-promise.Learnt κs a r₂ e₂ → (r₁ ≡ r₂) × (now (e₁ .1 .1 .1 .0) ≡ now (e₂ .1 .1 .1 .0))
 console-step κs a r₁ r₂ e₁ e₂ p q = same-console _ r₁ r₂ _ _ p q

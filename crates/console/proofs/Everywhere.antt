@@ -1,37 +1,34 @@
 -- An event at every place: what is counted and laid place by place is what is counted and laid for all.
-use Prim.Native.Nat.{ℕ, suc, _+_, _-_, _≤_, _<_, _*_}
+use Prim.Native.Nat.{ℕ, suc, _+_, _-_, _≤_, _<_}
 use mathlib.Core.Path.{_≡_, refl, sym, _∙_, ap}
 use mathlib.Core.Bool.{Bool, true, false, cond, not, _||_}
 use mathlib.Core.List.{List, [], _∷_, _++_, append-nil, append-assoc}
 use native.Mathlib.Nat.{zero-add, add-zero}
 use native.Mathlib.Numerals.{add-one}
 use native.Mathlib.Omega.{arith}
-use borrow.Author.Tests.{ne-eqb, le-leb, lt-leb, not-true, not-false, eqb-true}
+use borrow.Author.Tests.{eq-eqb, ne-eqb, le-leb, lt-leb, eqb-true, ltb-true, ltb-false}
 use borrow.Rule.Slice.PartMut.{putMid}
-use lib.Dec.{eqb, lit≤}
+use lib.Dec.{eqb, ltb, lit≤}
 use lib.ListN.{length, take, drop, set, length-append, length-drop, take-append-drop, drop-of-length-le}
 use lib.Seq.{sets, sets-eq, length-sets, take-all, take-suc, take-length, take-append-seam, length-take-le, drop-cons, set-at, getD-at}
 use Rattle.records.specs.declared.events.Event.{Event}
 use Rattle.records.specs.declared.messages.Message.{Message}
 use Rattle.records.specs.Messages.{messageBytes}
-use Rattle.records.proofs.Laws.{sets-append}
+use Rattle.records.proofs.Laws.{by-test, sets-append}
 use Rattle.callcontrol.specs.declared.call.Call.{Call}
 use Rattle.callcontrol.specs.Rows.{rowFor}
 use Rattle.callcontrol.specs.Writing.{messagesIn, bytesOf}
 use Rattle.callcontrol.specs.Step.{Outcome, refusal, otherCall, overTransmission, decided}
 use Rattle.callcontrol.proofs.Laying.{messages-small, size-append}
 use Rattle.console.specs.declared.route.Aim.{Aim}
+use Rattle.console.specs.declared.console.SoFar.{SoFar}
 use Rattle.console.specs.declared.console.AllStepped.{AllStepped}
 use Rattle.console.specs.Table.{noCall, callAt, some?}
 use Rattle.console.specs.Route.{aimOf}
-use Rattle.console.specs.Console.{behind, writes, placed, takes, writesFrom, nextOf, allNext, headed, LaidAll, ConsoleOutcome, everywhere, refuses}
+use Rattle.console.specs.Console.{behind, writes, placed, takes, part, writesFrom, nextOf, allNext, headed, OneMore, LaidAll, ConsoleOutcome, everywhere, refuses}
 use Rattle.console.proofs.Placing.{bytesAt, taking, place-size, no-bytes, row-carried, row-missing, carried-whole, placed-refuses, placed-takes, part-whole, put-whole, stored-part}
 
 -- ---- one place more
-
--- what a place writes
-abbrev pub part : ℕ → Call → Event → List Message
-part k c e = cond (takes e c) (writes k c e) []
 
 pub bytes-append : (ms ns : List Message) → bytesOf (ms ++ ns) ≡ bytesOf ms ++ bytesOf ns
 unfolding bytesOf
@@ -68,13 +65,13 @@ module _ (calls : List Call) (e : Event) where
   abbrev pub done : ℕ → List Message
   done k = writesFrom 0 (take k calls) e
 
-  more : (k : ℕ) → k < length calls → take (k + 1) calls ≡ take k calls ++ callAt calls k ∷ []
-  more k lt = ap (λ (n : ℕ). take n calls) (add-one k) ∙ take-suc calls k noCall lt
+  more-of : (k : ℕ) → k < length calls → take (k + 1) calls ≡ take k calls ++ callAt calls k ∷ []
+  more-of k lt = ap (λ (n : ℕ). take n calls) (add-one k) ∙ take-suc calls k noCall lt
 
   pub done-more : (k : ℕ) → k < length calls → done (k + 1) ≡ done k ++ part k (callAt calls k) e
   done-more k lt =
       let n : 0 + length (take k calls) ≡ k = (let l = length-take-le k calls (omega arith) in omega arith) in
-      ap (λ (z : List Call). writesFrom 0 z e) (more k lt)
+      ap (λ (z : List Call). writesFrom 0 z e) (more-of k lt)
       ∙ from-append 0 (take k calls) (callAt calls k ∷ []) e
       ∙ ap (λ (m : ℕ). done k ++ writesFrom m (callAt calls k ∷ []) e) n
       ∙ ap (λ (z : List Message). done k ++ z) (append-nil (part k (callAt calls k) e))
@@ -111,17 +108,6 @@ module _ (c : Call) (e : Event) where
 pub part-few : (k : ℕ) (c : Call) (e : Event) (t : Bool) → takes e c ≡ t → length (bytesOf (part k c e)) ≤ 127
 part-few k c e true t = rw (part-size c e k true t) (headed-few (length (bytesAt c e)) (messages-small (rowFor c e)) (eqb (length (bytesAt c e)) 0))
 part-few k c e false t = rw (part-size c e k false t) (omega arith)
-
-few-from : (k : ℕ) (cs : List Call) (e : Event) → length (bytesOf (writesFrom k cs e)) ≤ 127 * length cs
-unfolding bytesOf
-few-from k [] e = omega arith
-few-from k (c ∷ cs) e =
-    omega (arith, size-append (part k c e) (writesFrom (suc k) cs e), part-few k c e (takes e c) refl, few-from (suc k) cs e)
-
--- eight places have room in our own buffer
-pub own-room : (calls : List Call) (e : Event) (own : List ℕ) → length calls ≡ 8 → 1016 ≡ length own
-    → length (bytesOf (writesFrom 0 calls e)) ≤ length own
-own-room calls e own eight size = let w = few-from 0 calls e in omega arith
 
 -- ---- laying
 
@@ -202,33 +188,95 @@ module _ (k : ℕ) (c : Call) (e : Event) (b : List ℕ) (every : aimOf e ≡ Ai
   pub placed-part : Placed k c e b (placed k c e b)
   placed-part = placed-by (takes e c) refl
 
--- the buffer and the table where k places have been passed
-pub record Putting (e : Event) (b₀ : List ℕ) (calls : List Call) (b : List ℕ) (after : List Call) (t : Bool) (at k : ℕ) : Type 0 where
+-- ---- one place's turn, behind what those in front of it write
+
+module _
+    (k : ℕ) (c : Call) (e : Event) (passed : SoFar) (own : List ℕ) (every : aimOf e ≡ Aim.Every) (room : passed .size + length (bytesOf (part k c e)) ≤ length own) {o : Outcome}
+    (step : o ≡ placed k c e (take (length own - passed .size) (drop (passed .size) own))) where
+  placing : Placed k c e (drop (passed .size) own) o
+  placing =
+      let at = passed .size in
+      let fits : length (bytesOf (part k c e)) ≤ length (drop at own) = rw (length-drop at own) (omega arith) in
+      let same : o ≡ placed k c e (drop at own) = step ∙ ap (λ (z : List ℕ). placed k c e z) (part-whole own at) in
+      rw same (placed-part k c e (drop at own) every fits)
+
+  pub turn-within : passed .size + o .count ≤ length own
+  turn-within = let w = placing .count in omega arith
+
+  abbrev written : List ℕ
+  written = putMid (passed .size) (length own - passed .size) own (o .buffer)
+
+  laid-behind : written ≡ sets own (passed .size) (bytesOf (part k c e))
+  laid-behind =
+      let at = passed .size in
+      put-whole own (o .buffer) at ∙ ap (λ (z : List ℕ). take at own ++ z) (placing .buffer) ∙ stored-part own (bytesOf (part k c e)) at room
+
+  turn-by : {n upto : ℕ} → n ≡ o .answer → upto ≡ cond (eqb n 0) (k + 1) (passed .upto)
+      → (o .call ≡ nextOf e c) × OneMore upto (passed .size + o .count) written k c e passed own
+  turn-by number last = (
+    placing .call,
+    record {
+      last = last ∙ ap (λ (x : Bool). cond x (k + 1) (passed .upto)) (ap (λ (x : ℕ). eqb x 0) number ∙ placing .answer);
+      behind = ap (λ (m : ℕ). passed .size + m) (placing .count);
+      bytes = laid-behind;
+    },
+  )
+
+  pub turn-taken : {n : ℕ} → n ≡ o .answer → n ≡ 0 → (o .call ≡ nextOf e c) × OneMore (k + 1) (passed .size + o .count) written k c e passed own
+  turn-taken {n} number none = turn-by number (sym (ap (λ (x : Bool). cond x (k + 1) (passed .upto)) (eq-eqb n 0 none)))
+
+  pub turn-left : {n : ℕ} → n ≡ o .answer → (n ≡ 0 → ⊥) → (o .call ≡ nextOf e c) × OneMore (passed .upto) (passed .size + o .count) written k c e passed own
+  turn-left {n} number other = turn-by number (sym (ap (λ (x : Bool). cond x (k + 1) (passed .upto)) (ne-eqb n 0 other)))
+
+-- ---- the buffer and the table where k places have been passed
+
+pub record Putting (e : Event) (b₀ : List ℕ) (calls : List Call) (b : List ℕ) (after : List Call) (passed : SoFar) (k : ℕ) : Type 0 where
   pub bytes : b ≡ sets b₀ 0 (bytesOf (done calls e k))
   pub records : after ≡ allNext (take k calls) e ++ drop k calls
-  pub taken : t ≡ some? (takes e) (take k calls)
-  pub position : at ≡ length (bytesOf (done calls e k))
-  pub passed : k ≤ 8
+  pub taken : not (eqb (passed .upto) 0) ≡ some? (takes e) (take k calls)
+  pub last : passed .upto ≤ k
+  pub left : (j : ℕ) → passed .upto ≤ j → j < k → takes e (callAt calls j) ≡ false
+  pub position : passed .size ≡ length (bytesOf (done calls e k))
+  pub within : k ≤ 8
   pub eight : length calls ≡ 8
   pub room : length (bytesOf (writesFrom 0 calls e)) ≤ length b₀
 
 pub put-none : {e : Event} {b : List ℕ} {calls : List Call} → length calls ≡ 8 → length (bytesOf (writesFrom 0 calls e)) ≤ length b
-    → Putting e b calls b calls false 0 0
+    → Putting e b calls b calls (record { upto = 0; size = 0 }) 0
 unfolding bytesOf
-put-none eight room = record { bytes = refl; records = refl; taken = refl; position = refl; passed = omega arith; eight = eight; room = room }
+put-none eight room =
+    record { bytes = refl; records = refl; taken = refl; last = omega arith; left = λ j le lt. absurd (omega arith); position = refl; within = omega arith; eight = eight; room = room }
+
+-- a place that takes the event is the last that does
+last-taken : (t : Bool) (k upto : ℕ) → not (eqb (cond t (k + 1) upto) 0) ≡ (t || not (eqb upto 0))
+last-taken true k upto = ap not (ne-eqb (k + 1) 0 (λ z. omega arith))
+last-taken false k upto = refl
+
+last-within : (t : Bool) (k upto : ℕ) → upto ≤ k → cond t (k + 1) upto ≤ k + 1
+last-within true k upto le = omega arith
+last-within false k upto le = omega arith
 
 module _
-    {e : Event} {b₀ : List ℕ} {calls : List Call} {b : List ℕ} {after : List Call} {t : Bool} {at k : ℕ} (p : Putting e b₀ calls b after t at k) where
+    {e : Event} {b₀ : List ℕ} {calls : List Call} {b : List ℕ} {after : List Call} {passed : SoFar} {k : ℕ} (p : Putting e b₀ calls b after passed k) where
   pub same-room : length b ≡ length b₀
   same-room = ap length (p .bytes) ∙ length-sets b₀ 0 (bytesOf (done calls e k))
 
-  pub position-within : at ≤ length b
-  position-within = let w = done-within calls e k in let l = same-room in let a = p .position in let r = p .room in omega arith
+  pub as-many : length after ≡ 8
+  as-many =
+      let n = p .eight in
+      let w = p .within in
+      ap length (p .records) ∙ length-append (allNext (take k calls) e) (drop k calls)
+      ∙ (λ i. (next-length (take k calls) e ∙ length-take-le k calls (omega arith)) i + length-drop k calls i) ∙ omega arith
 
-  pub put-all : length calls ≤ k → LaidAll (record { taken = t; size = at; calls = after }) b calls e b₀
+  pub put-all : length calls ≤ k → LaidAll (record { upto = passed .upto; size = passed .size; calls = after }) b calls e b₀
   put-all le =
+      let n = p .eight in
+      let w = p .within in
+      let all : k ≡ 8 = omega arith in
       record {
         taken = p .taken ∙ ap (λ (z : List Call). some? (takes e) z) (take-all k calls le);
+        within = let l = p .last in omega arith;
+        behind = λ j from lt. p .left j from (omega arith);
         size = p .position ∙ ap (λ (z : List Message). length (bytesOf z)) (done-all calls e k le);
         records =
             p .records
@@ -249,71 +297,75 @@ module _
     next-call : callAt after k ≡ callAt calls k
     next-call = ap (λ (z : List Call). callAt z k) split ∙ getD-at (allNext (take k calls) e) (callAt calls k) (drop (suc k) calls) noCall k before
 
-    size-more : length (bytesOf (done calls e (k + 1))) ≡ at + length (bytesOf (part k (callAt calls k) e))
+    size-more : length (bytesOf (done calls e (k + 1))) ≡ passed .size + length (bytesOf (part k (callAt calls k) e))
     size-more =
         let n = p .eight in
         ap (λ (z : List Message). length (bytesOf z)) (done-more calls e k (omega arith))
         ∙ size-append (done calls e k) (part k (callAt calls k) e)
         ∙ ap (λ (m : ℕ). m + length (bytesOf (part k (callAt calls k) e))) (sym (p .position))
 
-    room-more : at + length (bytesOf (part k (callAt calls k) e)) ≤ length b
+    -- there is room for the place that is next
+    pub room-more : passed .size + length (bytesOf (part k (callAt after k) e)) ≤ length b
     room-more =
-        let s = size-more in let w = done-within calls e (k + 1) in let l = same-room in let r = p .room in omega arith
+        let s = size-more in
+        let w = done-within calls e (k + 1) in
+        let l = same-room in
+        let r = p .room in
+        rw next-call (omega arith)
 
-    module _ {o : Outcome} (every : aimOf e ≡ Aim.Every) (step : o ≡ placed k (callAt after k) e (take (length b - at) (drop at b))) where
-      placing : Placed k (callAt calls k) e (drop at b) o
-      placing =
-          let room : length (bytesOf (part k (callAt calls k) e)) ≤ length (drop at b) =
-          (let r = room-more in rw (length-drop at b) (omega arith)) in
-          let same : o ≡ placed k (callAt calls k) e (drop at b) =
-          step ∙ ap (λ (c : Call). placed k c e (take (length b - at) (drop at b))) next-call
-          ∙ ap (λ (z : List ℕ). placed k (callAt calls k) e z) (part-whole b at) in
-          rw same (placed-part k (callAt calls k) e (drop at b) every room)
+    module _ {upto size : ℕ} {now : List ℕ} (more : OneMore upto size now k (callAt after k) e passed b) where
+      last-is : upto ≡ cond (takes e (callAt calls k)) (k + 1) (passed .upto)
+      last-is = more .last ∙ ap (λ (c : Call). cond (takes e c) (k + 1) (passed .upto)) next-call
 
-      pub count-within : at + o .count ≤ length b
-      count-within = let r = room-more in let c = placing .count in omega arith
+      left-by : (t : Bool) → takes e (callAt calls k) ≡ t → (j : ℕ) → cond t (k + 1) (passed .upto) ≤ j → j < k + 1 → takes e (callAt calls j) ≡ false
+      left-by true t j from below = absurd (omega arith)
+      left-by false t j from below =
+          by-test (ltb j k) (λ b. p .left j from (ltb-true j k b))
+          (λ b. let l = ltb-false j k b in let same : j ≡ k = omega arith in ap (λ (n : ℕ). takes e (callAt calls n)) same ∙ t)
 
-      pub put-more : {n : ℕ} → n ≡ o .answer
-          → Putting e b₀ calls (putMid at (length b - at) b (o .buffer)) (set after k (o .call)) (eqb n 0 || t) (at + o .count) (k + 1)
-      put-more {n} number =
+      pub put-more : Putting e b₀ calls now (set after k (nextOf e (callAt after k))) (record { upto = upto; size = size }) (k + 1)
+      put-more =
           let eight = p .eight in
-          let whole : bytesOf (done calls e (k + 1)) ≡ bytesOf (done calls e k) ++ bytesOf (part k (callAt calls k) e) =
+          let v = bytesOf (part k (callAt calls k) e) in
+          let whole : bytesOf (done calls e (k + 1)) ≡ bytesOf (done calls e k) ++ v =
           ap bytesOf (done-more calls e k (omega arith)) ∙ bytes-append (done calls e k) (part k (callAt calls k) e) in
+          let same : part k (callAt after k) e ≡ part k (callAt calls k) e = ap (λ (c : Call). part k c e) next-call in
           record {
             bytes =
-                put-whole b (o .buffer) at
-                ∙ ap (λ (z : List ℕ). take at b ++ z) (placing .buffer)
-                ∙ stored-part b (bytesOf (part k (callAt calls k) e)) at room-more
-                ∙ ap (λ (z : List ℕ). sets z at (bytesOf (part k (callAt calls k) e))) (p .bytes)
-                ∙ ap (λ (m : ℕ). sets (sets b₀ 0 (bytesOf (done calls e k))) m (bytesOf (part k (callAt calls k) e))) (p .position ∙ sym (zero-add _))
-                ∙ sym (sets-append (bytesOf (done calls e k)) b₀ (bytesOf (part k (callAt calls k) e)) 0)
+                more .bytes
+                ∙ ap (λ (z : List Message). sets b (passed .size) (bytesOf z)) same
+                ∙ ap (λ (z : List ℕ). sets z (passed .size) v) (p .bytes)
+                ∙ ap (λ (m : ℕ). sets (sets b₀ 0 (bytesOf (done calls e k))) m v) (p .position ∙ sym (zero-add _))
+                ∙ sym (sets-append (bytesOf (done calls e k)) b₀ v 0)
                 ∙ ap (λ (z : List ℕ). sets b₀ 0 z) (sym whole);
             records =
-                ap (λ (z : List Call). set z k (o .call)) split
-                ∙ set-at (allNext (take k calls) e) (callAt calls k) (drop (suc k) calls) (o .call) k before
-                ∙ ap (λ (c : Call). allNext (take k calls) e ++ c ∷ drop (suc k) calls) (placing .call)
+                (λ i. set (split i) k (nextOf e (next-call i)))
+                ∙ set-at (allNext (take k calls) e) (callAt calls k) (drop (suc k) calls) (nextOf e (callAt calls k)) k before
                 ∙ sym
-                (ap (λ (z : List Call). allNext z e ++ drop (k + 1) calls) (more calls e k (omega arith))
+                (ap (λ (z : List Call). allNext z e ++ drop (k + 1) calls) (more-of calls e k (omega arith))
                 ∙ ap (λ (z : List Call). z ++ drop (k + 1) calls) (next-append (take k calls) (callAt calls k ∷ []) e)
                 ∙ append-assoc (allNext (take k calls) e) (nextOf e (callAt calls k) ∷ []) (drop (k + 1) calls)
                 ∙ ap (λ (m : ℕ). allNext (take k calls) e ++ nextOf e (callAt calls k) ∷ drop m calls) (add-one k));
             taken =
-                (λ i. (ap (λ (x : ℕ). eqb x 0) number ∙ placing .answer) i || p .taken i)
+                ap (λ (n : ℕ). not (eqb n 0)) last-is
+                ∙ last-taken (takes e (callAt calls k)) k (passed .upto)
+                ∙ ap (λ (x : Bool). takes e (callAt calls k) || x) (p .taken)
                 ∙ sym
-                (ap (λ (z : List Call). some? (takes e) z) (more calls e k (omega arith))
+                (ap (λ (z : List Call). some? (takes e) z) (more-of calls e k (omega arith))
                 ∙ some-append (takes e) (take k calls) (callAt calls k));
-            position = ap (λ (m : ℕ). at + m) (placing .count) ∙ sym size-more;
-            passed = omega arith;
+            last = rw last-is (last-within (takes e (callAt calls k)) k (passed .upto) (p .last));
+            left = λ j from below. left-by (takes e (callAt calls k)) refl j (rw last-is at from) below;
+            position = more .behind ∙ ap (λ (z : List Message). passed .size + length (bytesOf z)) same ∙ sym size-more;
+            within = omega arith;
             eight = eight;
             room = p .room;
           }
 
 -- ---- an event at every place: the answers
 
-pub own-fits : (calls : List Call) (e : Event) {r : AllStepped} {own own₀ : List ℕ} → LaidAll r own calls e own₀ → length calls ≡ 8 → 1016 ≡ length own₀
-    → r .size ≤ length own
-own-fits calls e {r} {own} {own₀} laid eight size =
-    let w = few-from 0 calls e in
+pub own-fits : (calls : List Call) (e : Event) {r : AllStepped} {own own₀ : List ℕ} → LaidAll r own calls e own₀
+    → length (bytesOf (writesFrom 0 calls e)) ≤ length own₀ → r .size ≤ length own
+own-fits calls e {r} {own} {own₀} laid room =
     let n = laid .size in
     let l : length own ≡ length own₀ = ap length (laid .bytes) ∙ length-sets own₀ 0 (bytesOf (writesFrom 0 calls e)) in
     omega arith
@@ -326,13 +378,19 @@ pub front-within : (n : ℕ) (own b : List ℕ) → n ≤ length own → n ≤ l
 front-within n own b fits room = let s = front-size n own fits in omega arith
 
 module _ (calls : List Call) (e : Event) (b : List ℕ) {r : AllStepped} {own own₀ : List ℕ} (laid : LaidAll r own calls e own₀) where
-  pub none-takes : not (r .taken) ≡ true → refuses 6 calls b ≡ everywhere calls e b
-  unfolding everywhere
-  none-takes none = rw (sym (laid .taken) ∙ not-true _ none)
+  none-of : r .upto ≡ 0 → some? (takes e) calls ≡ false
+  none-of none = sym (laid .taken) ∙ ap not (eq-eqb (r .upto) 0 none)
 
-  pub no-space : not (r .taken) ≡ false → length b < r .size → refuses 7 calls b ≡ everywhere calls e b
+  some-of : (r .upto ≡ 0 → ⊥) → some? (takes e) calls ≡ true
+  some-of one = sym (laid .taken) ∙ ap not (ne-eqb (r .upto) 0 one)
+
+  pub none-takes : r .upto ≡ 0 → refuses 6 calls b ≡ everywhere calls e b
   unfolding everywhere
-  no-space some short = rw (sym (laid .taken) ∙ not-false _ some, lt-leb _ _ (rw (laid .size) at short))
+  none-takes none = rw (none-of none)
+
+  pub no-space : (r .upto ≡ 0 → ⊥) → length b < r .size → refuses 7 calls b ≡ everywhere calls e b
+  unfolding everywhere
+  no-space one short = rw (some-of one, lt-leb _ _ (rw (laid .size) at short))
 
   -- what is copied is what was laid
   copied : {now : List ℕ} → r .size ≤ length b → r .size ≤ length own
@@ -348,9 +406,9 @@ module _ (calls : List Call) (e : Event) (b : List ℕ) {r : AllStepped} {own ow
       is ∙ ap (λ (z : List ℕ). take (length z) z ++ drop (length z) b) front ∙ ap (λ (z : List ℕ). z ++ drop (length v) b) (take-length v)
       ∙ sym (sets-eq v b 0 (omega arith) ∙ ap (λ (m : ℕ). v ++ drop m b) (zero-add (length v)))
 
-  pub all-take : not (r .taken) ≡ false → r .size ≤ length b → r .size ≤ length own → {now : List ℕ}
+  pub all-take : (r .upto ≡ 0 → ⊥) → r .size ≤ length b → r .size ≤ length own → {now : List ℕ}
       → now ≡ take (length (take (r .size) own)) (take (r .size) own) ++ drop (length (take (r .size) own)) b
       → _≡_ {A = ConsoleOutcome} (record { answer = 0; place = 0; calls = r .calls; count = r .size; buffer = now }) (everywhere calls e b)
   unfolding everywhere
-  all-take some room fits is =
-      rw (sym (laid .taken) ∙ not-false _ some, le-leb _ _ (rw (laid .size) at room), laid .records, copied room fits is, laid .size)
+  all-take one room fits is =
+      rw (some-of one, le-leb _ _ (rw (laid .size) at room), laid .records, copied room fits is, laid .size)

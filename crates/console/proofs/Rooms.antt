@@ -6,13 +6,14 @@ use mathlib.Core.List.{List, [], _∷_}
 use native.Mathlib.Omega.{arith}
 use borrow.Author.Tests.{leb-true}
 use lib.Dec.{leb, eqb}
-use lib.ListN.{length, drop}
+use lib.ListN.{length, drop, getD, set}
 use Rattle.records.specs.declared.events.Event.{Event}
 use Rattle.records.specs.Messages.{messageSize}
 use Rattle.records.specs.Bodies.{flatSize}
 use Rattle.callcontrol.specs.declared.call.State.{State}
 use Rattle.callcontrol.specs.declared.call.Path.{Path}
 use Rattle.callcontrol.specs.declared.call.Call.{Call}
+use Rattle.callcontrol.specs.Call.{runs, T306, T311}
 use Rattle.callcontrol.specs.Draft.{Draft}
 use Rattle.callcontrol.specs.Rows.{rowFor}
 use Rattle.callcontrol.specs.Writing.{messagesIn, bytesOf, countOf}
@@ -22,14 +23,16 @@ use Rattle.demands.specs.Demands.{Kept}
 use Rattle.demands.proofs.Bound.{slot, slot-size}
 use Rattle.demands.proofs.ByRow.{Row, is-row}
 use Rattle.demands.proofs.Situations.{At, up, broken, restoring, wait, transmit, receive, duplex, none, situated}
+use Rattle.console.specs.declared.route.Aim.{Aim}
 use Rattle.console.specs.declared.route.Route.{Route}
 use Rattle.console.specs.Table.{callAt, tableSound}
-use Rattle.console.specs.Console.{ConsoleOutcome, takes, writes, placed, atPlace, everywhere, writesFrom, consoleOf}
+use Rattle.console.specs.Route.{aimOf}
+use Rattle.console.specs.Console.{ConsoleOutcome, takes, writes, part, placed, atPlace, everywhere, writesFrom, consoleOf}
 use Rattle.console.specs.Runs.{ConsoleTurn, consoleOutcome}
 use Rattle.console.proofs.Placing.{bytesAt, Decides, decides, placed-refuses, placed-takes}
 use Rattle.console.proofs.Tables.{eight-of}
 use Rattle.console.proofs.Turns.{Everywhere, everywhere-does, none-takes, no-room, all-take, Came, came, unsound, unread, routes}
-use Rattle.console.proofs.Everywhere.{part, part-size, part-few}
+use Rattle.console.proofs.Everywhere.{part-size, part-few, every-is}
 
 -- ---- how many bytes a row writes, by its parts
 
@@ -55,6 +58,28 @@ break-cost Row.breaks-paused (wait l k n) = refl
 resume-cost : {c : Call} {s : State} {w : Path} {x : Draft} → Row c s w Event.Resume x → At s w c → leb (cost x) 18 ≡ true
 unfolding cost verbs countOf messageSize flatSize
 resume-cost Row.resumes (broken l n) = refl
+
+-- and of any record: T306 and T311 are stopped only where they run
+
+-- T311 where T306 has been stopped
+abbrev still : Call → Bool
+still c = getD (set (c .timers) T306 false) T311 false
+
+break-any : {c : Call} {s : State} {w : Path} {x : Draft} → Row c s w Event.Break x → (a b d : Bool) → runs c T306 ≡ a → runs c T311 ≡ b → still c ≡ d
+    → leb (cost x) 18 ≡ true
+unfolding cost verbs countOf messageSize flatSize
+break-any Row.breaks a true d p q r = rw q
+break-any Row.breaks a false d p q r = rw q
+break-any Row.breaks-again true b true p q r = rw (p, r)
+break-any Row.breaks-again true b false p q r = rw (p, r)
+break-any Row.breaks-again false b true p q r = rw (p, r)
+break-any Row.breaks-again false b false p q r = rw (p, r)
+break-any Row.breaks-paused a true d p q r = rw q
+break-any Row.breaks-paused a false d p q r = rw q
+
+resume-any : {c : Call} {s : State} {w : Path} {x : Draft} → Row c s w Event.Resume x → leb (cost x) 18 ≡ true
+unfolding cost verbs countOf messageSize flatSize
+resume-any Row.resumes = refl
 
 headed-most : (n m : ℕ) (z : Bool) → n ≤ m → cond z 0 (5 + n) ≤ 5 + m
 headed-most n m true h = omega arith
@@ -82,6 +107,24 @@ unfolding bytesOf
 all-most e m i [] f = omega arith
 all-most e m i (c ∷ cs) f =
     omega (arith, size-append (part i c e) (writesFrom (suc i) cs e), f 0 i (omega arith), all-most e m (suc i) cs (λ n k lt. f (suc n) k (omega arith)))
+
+-- BREAK and RESUME at every place of any table of eight
+pub every-room : (calls : List Call) (e : Event) → aimOf e ≡ Aim.Every → length calls ≤ 8 → length (bytesOf (writesFrom 0 calls e)) ≤ 184
+every-room calls e every eight =
+    let w = all-most e 23 0 calls (λ n k lt. part-most k (callAt calls n) e 18 (takes e (callAt calls n)) refl (any (callAt calls n))) in
+    omega arith
+  where
+    any : (c : Call) → takes e c ≡ true → leb (cost (rowFor c e)) 18 ≡ true
+    any c =
+        every-is (λ v. takes v c ≡ true → leb (cost (rowFor c v)) 18 ≡ true)
+        (λ t. break-any (is-row c Event.Break t) (runs c T306) (runs c T311) (still c) refl refl refl)
+        (λ t. resume-any (is-row c Event.Resume t))
+        e every
+
+-- so they have room in our own buffer
+pub own-room : (calls : List Call) (e : Event) (own : List ℕ) → aimOf e ≡ Aim.Every → length calls ≡ 8 → 184 ≡ length own
+    → length (bytesOf (writesFrom 0 calls e)) ≤ length own
+own-room calls e own every eight size = let w = every-room calls e every (omega arith) in omega arith
 
 module _ (calls : List Call) (eight : length calls ≡ 8) (kept : (k : ℕ) → k < 8 → Kept (callAt calls k)) where
   pub break-room : length (bytesOf (writesFrom 0 calls Event.Break)) ≤ 128

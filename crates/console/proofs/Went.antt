@@ -26,10 +26,10 @@ use Rattle.console.specs.declared.route.Aim.{Aim}
 use Rattle.console.specs.declared.route.Route.{Route}
 use Rattle.console.specs.Table.{noCall, callAt, some?, tableSound}
 use Rattle.console.specs.Route.{aimOf, routeOf}
-use Rattle.console.specs.Console.{ConsoleOutcome, behind, writes, placed, takes, writesFrom, allNext, everywhere, atPlace, refusesAt}
+use Rattle.console.specs.Console.{ConsoleOutcome, behind, writes, placed, takes, part, writesFrom, allNext, everywhere, atPlace, refusesAt}
 use Rattle.console.specs.Runs.{ConsoleTurn, consoleOutcome, consoleNext, lentBehind, allFits, goes, wentTo, framedFrom, framed}
 use Rattle.console.proofs.Placing.{taking, Decides, decides, row-carried, carried-whole, placed-refuses, placed-takes}
-use Rattle.console.proofs.Everywhere.{part, part-room, done, done-more, done-within, ours, silent}
+use Rattle.console.proofs.Everywhere.{part-room, done, done-more, done-within, ours, silent}
 use Rattle.console.proofs.Routing.{to-place, to-all}
 use Rattle.console.proofs.Tables.{sound-at, eight-of, some-at}
 use Rattle.console.proofs.Turns.{Everywhere, everywhere-does, none-takes, no-room, all-take, Came, came, unsound, unread, routes, next-at, next-is}

@@ -1,7 +1,7 @@
 -- The console's step: the answers in their order, and what each gives back.
-use Prim.Native.Nat.{ℕ, suc, _+_}
+use Prim.Native.Nat.{ℕ, suc, _+_, _≤_, _<_}
 use mathlib.Core.Path.{_≡_}
-use mathlib.Core.Bool.{Bool, cond}
+use mathlib.Core.Bool.{Bool, false, cond, not}
 use mathlib.Core.List.{List, [], _∷_, _++_}
 use lib.Dec.{leb, ltb, eqb}
 use lib.ListN.{length, drop, set}
@@ -16,6 +16,7 @@ use Rattle.callcontrol.specs.Writing.{messagesIn, bytesOf}
 use Rattle.callcontrol.specs.Step.{Outcome, refusal, decided}
 use Rattle.console.specs.declared.route.Route.{Route}
 use Rattle.console.specs.declared.console.ConsoleStepped.{ConsoleStepped}
+use Rattle.console.specs.declared.console.SoFar.{SoFar}
 use Rattle.console.specs.declared.console.AllStepped.{AllStepped}
 use Rattle.console.specs.Table.{callAt, some?, tableSound}
 use Rattle.console.specs.Route.{consoleNumber, routeOf}
@@ -68,6 +69,10 @@ atPlace k calls e buffer =
 abbrev pub takes : Event → Call → Bool
 takes e c = rowFor c e .taken
 
+-- what a place has of what an event writes: nothing where it does not take it
+abbrev pub part : ℕ → Call → Event → List Message
+part k c e = cond (takes e c) (writes k c e) []
+
 -- what an event writes at every place that takes it, places rising
 abbrev pub writesFrom : ℕ → List Call → Event → List Message
 writesFrom k [] e = []
@@ -116,9 +121,17 @@ headed n = cond (eqb n 0) 0 (5 + n)
 abbrev pub headRoom : ℕ → ℕ
 headRoom n = cond (ltb n 5) n 5
 
--- what all places write is laid in the buffer from its front
+-- one place more: what it writes is laid behind what those in front of it write, and it is the last that takes the event, or they have that
+pub record OneMore (upto size : ℕ) (now : List ℕ) (k : ℕ) (c : Call) (e : Event) (passed : SoFar) (own : List ℕ) : Type 0 where
+  pub last : upto ≡ cond (takes e c) (k + 1) (passed .upto)
+  pub behind : size ≡ passed .size + length (bytesOf (part k c e))
+  pub bytes : now ≡ sets own (passed .size) (bytesOf (part k c e))
+
+-- what all places write is laid in the buffer from its front; behind the last that takes the event none does
 pub record LaidAll (r : AllStepped) (now : List ℕ) (calls : List Call) (e : Event) (buffer : List ℕ) : Type 0 where
-  pub taken : r .taken ≡ some? (takes e) calls
+  pub taken : not (eqb (r .upto) 0) ≡ some? (takes e) calls
+  pub within : r .upto ≤ 8
+  pub behind : (j : ℕ) → r .upto ≤ j → j < 8 → takes e (callAt calls j) ≡ false
   pub size : r .size ≡ length (bytesOf (writesFrom 0 calls e))
   pub records : r .calls ≡ allNext calls e
   pub bytes : now ≡ sets buffer 0 (bytesOf (writesFrom 0 calls e))

@@ -2,7 +2,6 @@ pub mod Table
 pub mod Route
 pub mod Keys
 pub mod Console
-pub mod Lent
 pub mod Runs
 pub mod Answers
 pub mod Demands

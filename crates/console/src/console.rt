@@ -1,6 +1,6 @@
 // One event for the console: the table and the messages go on, or a refusal changes nothing.
 ghost use mathlib.Core.Path.{_≡_};
-ghost use Prim.Native.Nat.{_<_, _≤_};
+ghost use Prim.Native.Nat.{_+_, _<_, _≤_};
 ghost use lib.ListN.{length};
 ghost use Rattle.records.specs.declared.messages.Message.{Message};
 ghost use Rattle.records.specs.Bodies.{laid};
@@ -9,8 +9,9 @@ ghost use Rattle.callcontrol.specs.Writing.{bytesOf};
 ghost use Rattle.callcontrol.specs.Step.{asOutcome};
 ghost use Rattle.console.specs.declared.route.Aim.{Aim};
 ghost use Rattle.console.specs.Route.{aimOf};
-ghost use Rattle.console.specs.Console.{headed, headRoom, placed, atPlace, LaidAll, writesFrom, everywhere, asConsole, consoleOf};
+ghost use Rattle.console.specs.Console.{headed, headRoom, placed, part, nextOf, OneMore, atPlace, everywhere, asConsole, consoleOf};
 use crate::keys::keys_of;
+use crate::lent::put_all;
 use crate::route::ConsoleAnswer;
 use crate::route::Led;
 use crate::route::lead;
@@ -22,9 +23,22 @@ use callcontrol::step::answer_number;
 use callcontrol::step::decide;
 use records::events::Event;
 
-// Whether a place takes an event, how many bytes are written for it, and the eight records.
+// What the places that were passed come to: how many there are up to the last that takes the event, 0 where none does, and how many bytes they write.
+pub struct SoFar {
+    pub upto: usize,
+    pub size: usize,
+}
+
+// The same with one place more, and that place's record.
+pub struct Turned {
+    pub upto: usize,
+    pub size: usize,
+    pub call: Call,
+}
+
+// The same of all eight places, and their records.
 pub struct AllStepped {
-    pub taken: bool,
+    pub upto: usize,
     pub size: usize,
     pub calls: [Call; 8],
 }
@@ -109,37 +123,35 @@ fn at_place(calls: [Call; 8], k: usize, event: Event, buffer: &mut [u8]) -> Cons
     }
 }
 
-// The steps of all places, where there is room for what they write: a place that does not take the event stays as it is.
-fn put_all(calls: [Call; 8], event: Event, buffer: &mut [u8]) -> AllStepped
-    requires { ⌜ aimOf event ≡ Aim.Every ⌝ }
-    requires { ⌜ length (bytesOf (writesFrom 0 calls event)) ≤ length (now buffer) ⌝ }
-    ensures { λ r. ⌜ LaidAll r (now (buffer .exit)) calls event (now (buffer .entry)) ⌝ }
+// The turn of one place, where there is room for what it writes: behind what the places in front of it write. A place that does not take the event stays as it is.
+pub fn turn(call: Call, k: usize, event: Event, passed: SoFar, own: &mut [u8]) -> Turned
+    requires { ⌜ (aimOf event ≡ Aim.Every) × (k < 8) × (passed .size + length (bytesOf (part k call event)) ≤ length (now own)) ⌝ }
+    ensures { λ r. ⌜ (r .call ≡ nextOf event call) × OneMore (r .upto) (r .size) (now (own .exit)) k call event passed (now (own .entry)) ⌝ }
 {
-    let mut after = calls;
-    let mut taken = false;
-    let mut at = 0;
-    let mut k = 0;
-    while k < 8 {
-        let stepped = place_step(after[k], k as u8, event, &mut buffer[at..]);
-        let answer = stepped.answer;
-        let next = stepped.call;
-        after[k] = next;
-        taken = (answer_number(answer) == 0) | taken;
-        at += stepped.count;
-        k += 1;
+    let at = passed.size;
+    let stepped = place_step(call, k as u8, event, &mut own[at..]);
+    let answer = stepped.answer;
+    let next = stepped.call;
+    let size = at + stepped.count;
+    if answer_number(answer) == 0 {
+        return Turned {
+            upto: k + 1,
+            size,
+            call: next,
+        };
     }
-    AllStepped {
-        taken,
-        size: at,
-        calls: after,
+    Turned {
+        upto: passed.upto,
+        size,
+        call: next,
     }
 }
 
-// Room for what eight places write, whatever their rows are.
-fn own_buffer() -> [u8; 1016]
-    ensures { λ r. ⌜ 1016 ≡ length r ⌝ }
+// Room for what eight places write for BREAK or RESUME, whatever their records are.
+pub fn own_buffer() -> [u8; 184]
+    ensures { λ r. ⌜ 184 ≡ length r ⌝ }
 {
-    [0; 1016]
+    [0; 184]
 }
 
 // An event for every place that would take it: laid in a buffer of our own first, and copied only where all of it fits.
@@ -149,7 +161,7 @@ pub fn everywhere(calls: [Call; 8], event: Event, buffer: &mut [u8]) -> ConsoleS
 {
     let mut own = own_buffer();
     let all = put_all(calls, event, &mut own);
-    if !all.taken {
+    if all.upto == 0 {
         return ConsoleStepped {
             answer: ConsoleAnswer::OfStep(Answer::NoRow),
             place: 0,

@@ -14,7 +14,6 @@ use Rattle.console.specs.Route.{consoleNumber, aimOf}
 use Rattle.console.specs.Console.{atPlace, everywhere, consoleOf}
 use Rattle.console.specs.Keys.{asLead, leadBy}
 use Rattle.console.proofs.ByKeys.{lead-goes, lead-fits, led-by}
-use Rattle.console.proofs.Rooms.{console-few}
 use Rattle.host.specs.Entries.{word}
 use Rattle.host_console.specs.Table.{heldTable, packedInto, TableLeft, consoleLeft, consoleHostStep}
 use Rattle.host_console.proofs.Tables.{Known, whole, leads-nowhere}
@@ -35,9 +34,6 @@ module _ (s : List ℕ) (place : ℕ) (ev b : List ℕ) {ks : List ℕ} (known :
 
   pub all-aimed : {e : Event} → l ≡ Led.Everywhere e → aimOf e ≡ Aim.Every
   all-aimed same = lead-fits (heldTable s) (known .sound) place ev (led-by (heldTable s) place ev (known .keys) leads same)
-
-  pub all-few : {e : Event} → l ≡ Led.Everywhere e → everywhere (heldTable s) e b .count ≤ 1016
-  all-few same = console-few (heldTable s) place ev b (all-steps same)
 
   pub to-every : {e : Event} → l ≡ Led.Everywhere e → consoleLeft s (everywhere (heldTable s) e b) ≡ consoleHostStep s place ev b
   to-every same = whole s place ev b (known .is-table) (all-steps same)

@@ -1,3 +1,4 @@
+pub mod All
 pub mod Determined
 pub mod Entry
 pub mod Near

@@ -11,9 +11,9 @@ use Rattle.callcontrol.specs.declared.call.Call.{Call}
 use Rattle.console.specs.Table.{noCall, callAt}
 use Rattle.host.specs.Packing.{packed}
 use Rattle.host.proofs.Packing.{packed-length}
-use Rattle.host_console.specs.Table.{isTable, heldTable, packedAt, packedInto}
+use Rattle.host_console.specs.Table.{isTable, heldTable, packedAt, packedFirst, packedInto}
 use Rattle.host_console.proofs.Packing.{stays}
-use Rattle.host_console.proofs.Tables.{partOf, packedFirst, part-packed, held-at, part-record, table-length, eight-held}
+use Rattle.host_console.proofs.Tables.{partOf, part-packed, all-packed, held-at, part-record, table-length, eight-held}
 
 -- ---- bytes that lie apart are stored in either order
 
@@ -72,6 +72,34 @@ module _ (s : List ℕ) (small : (i : ℕ) → getD s i 0 < 256) (is : isTable s
   packed-one is-part =
       let h = table-length s is in
       part-packed s k c (omega arith) is-part ∙ one-place
+
+-- ---- the first places
+
+-- what is packed of the first places, where the others have what is held
+module _
+    (s : List ℕ) (small : (i : ℕ) → getD s i 0 < 256) (is : isTable s ≡ true) (calls : List Call) (upto : ℕ) (le : upto ≤ 8)
+    (same : (j : ℕ) → upto ≤ j → j < 8 → callAt calls j ≡ callAt (heldTable s) j) where
+  -- a part of the others, packed behind the first n of all
+  over-first : (j : ℕ) → upto ≤ j → j < 8 → (n : ℕ) → n ≤ j → packedAt (22 * j) (callAt calls j) (packedFirst n calls s) ≡ packedFirst n calls s
+  over-first j from lt zero le-j =
+      let h = table-length s is in
+      ap (λ (d : Call). packedAt (22 * j) d s) (same j from lt ∙ held-at s j lt) ∙ stays s small (22 * j) (omega arith) (part-record s j lt is)
+  over-first j from lt (suc n) le-j =
+      let size = packed-length (callAt calls n) in
+      sets-past (packedFirst n calls s) (22 * n) (22 * j) (packed (callAt calls n)) (packed (callAt calls j)) (omega arith)
+      ∙ ap (λ (z : List ℕ). packedAt (22 * n) (callAt calls n) z) (over-first j from lt n (omega arith))
+
+  from-first : (d n : ℕ) → n ≡ upto + d → n ≤ 8 → packedFirst n calls s ≡ packedFirst upto calls s
+  from-first zero n e le-n = let m : n ≡ upto = omega arith in ap (λ (x : ℕ). packedFirst x calls s) m
+  from-first (suc d) n e le-n =
+      let j = upto + d in
+      let m : n ≡ suc j = omega arith in
+      ap (λ (x : ℕ). packedFirst x calls s) m
+      ∙ over-first j (omega arith) (omega arith) j (omega arith)
+      ∙ from-first d j refl (omega arith)
+
+  pub first-places : packedFirst upto calls s ≡ packedInto calls s
+  first-places = sym (from-first (8 - upto) 8 (omega arith) (omega arith)) ∙ all-packed calls s
 
 -- nothing changes where what is held is packed again
 pub same-table : (s : List ℕ) (small : (i : ℕ) → getD s i 0 < 256) → isTable s ≡ true → packedInto (heldTable s) s ≡ s

@@ -18,13 +18,13 @@ use Rattle.console.specs.Table.{callAt, freshTable, every?, apart, tableSound}
 use Rattle.console.specs.Keys.{keysFrom, apartBy}
 use Rattle.console.proofs.ByKeys.{apart-by}
 use Rattle.console.proofs.Rooms.{place-few}
-use Rattle.console.specs.Console.{ConsoleOutcome, refusesAt, placed, atPlace, everywhere, consoleOf}
+use Rattle.console.specs.Console.{ConsoleOutcome, refusesAt, placed, atPlace, consoleOf}
 use Rattle.demands.proofs.Facts.{left, right}
 use Rattle.host.specs.Packing.{packed, isRecord, held}
 use Rattle.host.proofs.Packing.{packed-length}
 use Rattle.host.specs.Entries.{word}
 use Rattle.host_console.specs.declared.table.TableKeys.{TableKeys}
-use Rattle.host_console.specs.Table.{recordAt, isTable, heldTable, packedAt, packedInto, TableLeft, consoleLeft, consoleHostStep}
+use Rattle.host_console.specs.Table.{recordAt, isTable, heldTable, packedAt, packedFirst, packedInto, TableLeft, consoleLeft, consoleHostStep}
 use Rattle.host_console.specs.Reading.{Where, KeysOf}
 
 -- ---- a record into its part of the table
@@ -63,11 +63,6 @@ part-packed s k c room is =
     ∙ ap (λ (n : ℕ). putMid (22 * k) n s (sets (take n (drop (22 * k) s)) 0 (packed c))) (part-size k)
     ∙ packed-part s (22 * k) c room
 
--- the first parts are packed
-abbrev pub packedFirst : ℕ → List Call → List ℕ → List ℕ
-packedFirst zero calls s = s
-packedFirst (suc k) calls s = packedAt (22 * k) (callAt calls k) (packedFirst k calls s)
-
 pub record Packing (calls : List Call) (s : List ℕ) (k : ℕ) (t : List ℕ) : Type 0 where
   pub bytes : t ≡ packedFirst k calls s
   pub size : length t ≡ 176
@@ -85,9 +80,12 @@ pack-next calls s k {t} {y} p lt is =
       size = ap length part ∙ length-sets t (22 * k) (packed c) ∙ eight;
     }
 
-pub all-packed : (calls : List Call) (s : List ℕ) (k : ℕ) {t : List ℕ} → Packing calls s k t → k ≡ 8 → t ≡ packedInto calls s
+pub first-packed : (calls : List Call) (s : List ℕ) (k upto : ℕ) {t : List ℕ} → Packing calls s k t → k ≡ upto → t ≡ packedFirst upto calls s
+first-packed calls s k upto p all = p .bytes ∙ ap (λ (n : ℕ). packedFirst n calls s) all
+
+pub all-packed : (calls : List Call) (s : List ℕ) → packedFirst 8 calls s ≡ packedInto calls s
 unfolding packedInto
-all-packed calls s k p all = p .bytes ∙ ap (λ (n : ℕ). packedFirst n calls s) all
+all-packed calls s = refl
 
 -- ---- the records of a table's parts
 
@@ -277,6 +275,3 @@ leads-nowhere s b n p same = by (eqb n 0)
 
 pub few-written : (k : ℕ) (c : Call) (e : Event) (b : List ℕ) {o : Outcome} → o ≡ placed k c e b → o .count ≤ 127
 few-written k c e b is = rw is (place-few k c e b)
-
-pub few-all : (calls held : List Call) (e : Event) (b : List ℕ) {o : ConsoleOutcome} → calls ≡ held → o ≡ everywhere calls e b → everywhere held e b .count ≤ 1016 → o .count ≤ 1016
-few-all calls held e b same step few = rw (step, same) few

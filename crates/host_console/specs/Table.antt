@@ -1,5 +1,5 @@
 -- The console's entries: what each returns, and what it leaves in the lent slices. A table is eight records one after the other.
-use Prim.Native.Nat.{ℕ}
+use Prim.Native.Nat.{ℕ, zero, suc, _*_}
 use mathlib.Core.Bool.{Bool, cond, _&&_}
 use mathlib.Core.List.{List, [], _∷_}
 use lib.Dec.{eqb}
@@ -30,6 +30,11 @@ heldTable s =
 -- a record into its part
 abbrev pub packedAt : ℕ → Call → List ℕ → List ℕ
 packedAt at c s = sets s at (packed c)
+
+-- the first of some records, each into its part
+abbrev pub packedFirst : ℕ → List Call → List ℕ → List ℕ
+packedFirst zero calls s = s
+packedFirst (suc k) calls s = packedAt (22 * k) (callAt calls k) (packedFirst k calls s)
 
 -- eight records into a table's bytes
 unfoldable pub packedInto : List Call → List ℕ → List ℕ

@@ -7,14 +7,15 @@ ghost use lib.ListN.{length};
 ghost use Rattle.console.specs.declared.route.Aim.{Aim};
 ghost use Rattle.console.specs.Route.{aimOf};
 ghost use Rattle.console.specs.Console.{atPlace, everywhere};
-ghost use Rattle.host_console.specs.Table.{TableLeft, isTable, heldTable, packedInto, consoleLeft, consoleFreshened, consoleHostStep};
+ghost use Rattle.host_console.specs.Table.{TableLeft, isTable, heldTable, packedFirst, consoleLeft, consoleFreshened, consoleHostStep};
 ghost use Rattle.host_console.specs.Reading.{KeysOf};
 use callcontrol::call::Call;
 use callcontrol::step::answer_number;
-use console::console::everywhere;
+use console::console::own_buffer;
 use console::console::place_step;
 use console::keys::apart_by;
 use console::keys::key_of;
+use console::lent::put_all;
 use console::route::Led;
 use console::route::console_number;
 use console::route::lead;
@@ -73,13 +74,13 @@ fn held_table(s: &[u8]) -> [Call; 8]
     calls
 }
 
-// Eight calls into a table's bytes.
-fn pack_table(calls: [Call; 8], s: &mut [u8])
-    requires { ⌜ length (now s) ≡ 176 ⌝ }
-    ensures { λ _. ⌜ now (s .exit) ≡ packedInto calls (now (s .entry)) ⌝ }
+// The first of eight calls, up to a place, into a table's bytes.
+fn pack_table(calls: [Call; 8], upto: usize, s: &mut [u8])
+    requires { ⌜ (length (now s) ≡ 176) × (upto ≤ 8) ⌝ }
+    ensures { λ _. ⌜ now (s .exit) ≡ packedFirst upto calls (now (s .entry)) ⌝ }
 {
     let mut place = 0;
-    while place < 8 {
+    while place < upto {
         let at = 22 * place;
         pack(calls[place], &mut s[at..at + 22]);
         place += 1;
@@ -94,7 +95,7 @@ pub extern "C" fn callcontrol_console_fresh(table: &mut [u8]) -> u32
     if table.len() != 176 {
         return ANSWER;
     }
-    pack_table([Call::fresh(); 8], table);
+    pack_table([Call::fresh(); 8], 8, table);
     176
 }
 
@@ -117,20 +118,24 @@ fn to_place(table: &mut [u8], k: usize, event: Event, out: &mut [u8]) -> u32
     result
 }
 
-// An event for every place: eight records are read, stepped and written.
+// An event for every place: eight records are read and stepped, and written where the event is taken and all messages fit, up to the last that takes it.
 fn to_all(table: &mut [u8], event: Event, out: &mut [u8]) -> u32
-    requires { ⌜ (aimOf event ≡ Aim.Every) × (isTable (now table) ≡ true) × (everywhere (heldTable (now table)) event (now out) .count ≤ 1016) ⌝ }
+    requires { ⌜ (aimOf event ≡ Aim.Every) × (isTable (now table) ≡ true) ⌝ }
     ensures { λ r. ⌜ _≡_ {A = TableLeft} (record { result = r; table = now (table .exit); out = now (out .exit) }) (consoleLeft (now (table .entry)) (everywhere (heldTable (now (table .entry))) event (now (out .entry)))) ⌝ }
 {
-    let stepped = everywhere(held_table(table), event, out);
-    let answer = stepped.answer;
-    let after = stepped.calls;
-    let number = console_number(answer) as u32;
-    let result = number * ANSWER + (stepped.place as u32) * PLACE + stepped.count as u32;
-    if number == 0 {
-        pack_table(after, table);
+    let mut own = own_buffer();
+    let all = put_all(held_table(table), event, &mut own);
+    if all.upto == 0 {
+        return 6 * ANSWER;
     }
-    result
+    let size = all.size;
+    if out.len() < size {
+        return 7 * ANSWER;
+    }
+    bytes::copy(&own[..size], out);
+    let after = all.calls;
+    pack_table(after, all.upto, table);
+    size as u32
 }
 
 // One event for the console: the table goes on and the messages are in out, or nothing is changed.

@@ -1,6 +1,7 @@
 -- Eight fresh records, where there is room for them.
 use borrow.Author.Tests.{eq-eqb, ne-eqb}
 use Rattle.host_console.specs.Table.{consoleFreshened}
+use Rattle.host_console.proofs.Tables.{all-packed}
 use borrow.Author.Needs.{needs}
 use Rattle.host_console.proofs.table.callcontrol_console_fresh.Statement.{statement}
 use Rattle.host_console.proofs.table.callcontrol_console_fresh.Tie as tie
@@ -20,7 +21,7 @@ same-length c = search needs
 
 returns-2 : tie.Need-returns-2
 unfolding consoleFreshened
-returns-2 c = rw (eq-eqb _ _ (c .before .before .before .before .before .if1 .left), c .before .before .pack-table .ensures, c .before .before .before .before .fresh .ensures)
+returns-2 c = rw (eq-eqb _ _ (c .before .before .before .before .before .if1 .left), c .before .before .pack-table .ensures, all-packed _ (c .before .before .before .before .before .before .before .args .table .now), c .before .before .before .before .fresh .ensures)
 
 pub callcontrol-console-fresh-spec : {M : Type 1} → statement M
 callcontrol-console-fresh-spec =

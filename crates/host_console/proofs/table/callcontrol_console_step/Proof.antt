@@ -4,7 +4,7 @@ use mathlib.Core.Path.{_∙_}
 use native.Mathlib.Omega.{arith}
 use borrow.Author.Needs.{needs}
 use Rattle.host_console.proofs.Tables.{no-table, known}
-use Rattle.host_console.proofs.Entry.{to-below, to-one, all-aimed, all-few, to-every, to-none}
+use Rattle.host_console.proofs.Entry.{to-below, to-one, all-aimed, to-every, to-none}
 use Rattle.host_console.proofs.table.callcontrol_console_step.Statement.{statement}
 use Rattle.host_console.proofs.table.callcontrol_console_step.Tie as tie
 
@@ -47,7 +47,7 @@ to-all-requires c κs =
     let t = e .before .before in
     let a = t .before .before .before .before .before .args in
     let n = known (a .table .now) (t .table-keys .ensures) (e .if1 .left) in
-    (all-aimed (a .table .now) (a .place) (a .event .now) (a .out .now) n (d .lead .ensures) (k .e .given .1), n .is-table, all-few (a .table .now) (a .place) (a .event .now) (a .out .now) n (d .lead .ensures) (k .e .given .1))
+    (all-aimed (a .table .now) (a .place) (a .event .now) (a .out .now) n (d .lead .ensures) (k .e .given .1), n .is-table)
 
 enum-known-answer : tie.Need-enum-known-answer
 enum-known-answer c = search needs

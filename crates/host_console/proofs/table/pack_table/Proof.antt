@@ -3,19 +3,19 @@ use Prim.Native.Nat.{_≤_, _-_}
 use mathlib.Core.Path.{_≡_, refl, sym, _∙_}
 use native.Mathlib.Omega.{arith}
 use lib.ListN.{length}
-use Rattle.host_console.proofs.Tables.{Packing, pack-next, all-packed}
+use Rattle.host_console.proofs.Tables.{Packing, pack-next, first-packed}
 use borrow.Author.Needs.{needs}
 use Rattle.host_console.proofs.table.pack_table.Statement.{statement}
 use Rattle.host_console.proofs.table.pack_table.Tie as tie
 
 abbrev Inv-loop : tie.InvT-loop
-Inv-loop s₀ calls k₀ s k = Packing calls s₀ k s × (k ≤ 8) × (length s ≡ 176) × (length s₀ ≡ 176) × (length calls ≡ 8)
+Inv-loop upto s₀ calls k₀ s k = Packing calls s₀ k s × (k ≤ upto) × (length s ≡ 176) × (length s₀ ≡ 176) × (length calls ≡ 8) × (upto ≤ 8)
 
 abbrev μ-loop : tie.MeasureT-loop
-μ-loop s₀ calls k₀ s k = 8 - k
+μ-loop upto s₀ calls k₀ s k = upto - k
 
 loop-holds : tie.Need-loop-holds Inv-loop μ-loop
-loop-holds c = (record { bytes = refl; size = c .before .pre }, omega arith, c .before .pre, c .before .pre, search needs)
+loop-holds c = (record { bytes = refl; size = c .before .pre .0 }, omega arith, c .before .pre .0, c .before .pre .0, search needs, c .before .pre .1)
 
 mul-at : tie.Need-mul-at Inv-loop μ-loop
 mul-at c = omega arith
@@ -50,14 +50,15 @@ loop-less c = omega arith
 loop-again : tie.Need-loop-again Inv-loop μ-loop
 loop-again c =
     let l = c .before .before .before .before .before .before in
-    let next = pack-next _ _ _ (l .loop .inv .0) (c .before .before .before .before .before .loop-test .taken) (c .before .before .pack .ensures) in
-    (next, omega arith, next .size, l .loop .inv .3, l .loop .inv .4)
+    let below = c .before .before .before .before .before .loop-test .taken in
+    let next = pack-next _ _ _ (l .loop .inv .0) (omega (arith, below, l .loop .inv .5)) (c .before .before .pack .ensures) in
+    (next, omega arith, next .size, l .loop .inv .3, l .loop .inv .4, l .loop .inv .5)
 
 same-length : tie.Need-same-length Inv-loop μ-loop
 same-length c = c .before .loop .inv .2 ∙ sym (c .before .loop .inv .3)
 
 returns : tie.Need-returns Inv-loop μ-loop
-returns c = all-packed _ _ _ (c .before .loop .inv .0) (omega arith)
+returns c = first-packed _ _ (c .before .loop .place) (c .before .before .before .args .upto) (c .before .loop .inv .0) (omega arith)
 
 pub pack-table-spec : {M : Type 1} → statement M
 pack-table-spec =
