@@ -190,12 +190,12 @@ activeUp c SetupResponse = noRow c
 activeUp c ReleaseRequest = releasing c
 -- 14.5.1.2.1
 activeUp c (TxRequest k) = cond (eqb k 1) (demands c) (ceases c)
--- 14.5.1.2.3
 activeUp c (DCallProceeding i) = noRow c
 activeUp c (DAlert i) = noRow c
 activeUp c (DConnect i g d o s) = noRow c
 activeUp c (DConnectAcknowledge i g o) = noRow c
 activeUp c (DSetup i a d) = noRow c
+-- 14.5.1.2.3
 activeUp c (DInfo i r o d s) = informed r o d s c
 -- 14.5.1.2.1
 activeUp c (DTxGranted i g) = draft c ▷ grant g ▷ tell (TxIndication g)
