@@ -93,7 +93,7 @@ abbrev pub whenRead : Read Event → Call → List ℕ → Outcome
 whenRead (taken e) c buffer = decided c e buffer
 whenRead (refused n place) c buffer = refusalAt n place c buffer
 
--- the step: the lowest number that applies, and none otherwise
+-- the step: the first number that applies in the order 1 2 3 9 4 5 6 8 7, and none otherwise
 unfoldable pub stepOf : Call → List ℕ → List ℕ → Outcome
 stepOf c bytes buffer = cond (sound c) (whenRead (read events bytes) c buffer) (refusal 1 c buffer)
 
