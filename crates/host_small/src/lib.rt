@@ -5,6 +5,7 @@ ghost use mathlib.Core.List.{List};
 ghost use Prim.Native.Nat.{ℕ};
 ghost use Rattle.host.specs.Entries.{Left, freshened, hostStep};
 use callcontrol::call::Call;
+use callcontrol::step::Answer;
 use callcontrol::step::answer_number;
 use host::packed::ANSWER;
 use host::packed::PLACE;
@@ -36,11 +37,11 @@ pub extern "C" fn callcontrol_step(call: &mut [u8], event: &[u8], out: &mut [u8]
     let stepped = small_step(held(call), event, out);
     let answer = stepped.answer;
     let next = stepped.call;
-    let number = answer_number(answer) as u32;
-    let rest = (stepped.place as u32) * PLACE + stepped.count as u32;
-    if number == 0 {
-        pack(next, call);
-        return rest;
-    }
-    number * ANSWER + rest
+    let Answer::Taken = answer else {
+        return answer_number(answer) as u32 * ANSWER
+            + (stepped.place as u32) * PLACE
+            + stepped.count as u32;
+    };
+    pack(next, call);
+    (stepped.place as u32) * PLACE + stepped.count as u32
 }
