@@ -51,7 +51,11 @@ for name in $("$root/tests/archives.sh"); do
     echo -Wno-override-module >>options.here
     xargs -d '\n' "$own/toolchain/bin/clang" <options.here
     "$own/toolchain/bin/llvm-ar" rcs "lib$name.a" module.o
-    rm -f module.bc module.o options
+    rm -f module.o
+    # For tests/size.sh, which takes the module apart.
+    mv module.bc "$name.bc"
+    mv options "$name.shipped"
+    mv options.here "$name.here"
 done
 rm -rf kit
 

@@ -2,8 +2,10 @@
 # Compares the code size of the library with that of the accounts: the Rust one built for size, and
 # the one in plain C (tests/yardstick) at -Os and -O3.
 #
-# The second engine (libhost_small.a) stands beside the first, and at the end code and constants together and
-# the largest functions of each.
+# The second engine (libhost_small.a) stands beside the first: code and constants together, and part by part, a
+# part being a module of the source. What is shipped is one function for most of it; so that the parts can be told
+# apart, the modules that tests/at_hand.sh keeps are compiled with no function written out into another, and the
+# sums are larger.
 #
 # All are linked the same way into a C program that names functions, unused sections dropped; what a
 # program that names none of them already has is subtracted. Ratios are the library's .text to it.
@@ -114,7 +116,35 @@ for program in step_alone second step_c-Os; do
         name["step_alone"] = "first engine"; name["second"] = "second engine"; name["step_c-Os"] = "plain C -Os"
         printf "%-44s%10d%8.3f\n", name[what], it, own / it }'
 done
-for engine in step_alone second; do
-    ${cross}nm -S --size-sort -t d "$work/$engine" | awk -v engine="$engine" \
-        'tolower($3) == "t" && $4 ~ /callcontrol|::/ { printf "  %-42s%10d\n", (engine == "second" ? "second: " : "first: ") $4, $2 }'
-done
+
+# Part by part: symbol and bytes of each function that a step brings, with no function written out into another.
+kit=${RATTLE_HOME:-$(dirname "$(dirname "$(readlink -f "$(command -v rt)")")")}
+clang=$kit/on/$(uname -m)/toolchain/bin/clang
+kept=$here/../target/at-hand
+apart() { # archive, which options
+    mkdir "$work/$1"
+    cd "$work/$1"
+    "$clang" -S -emit-llvm -O0 -Xclang -disable-llvm-passes -Wno-override-module -x ir "$kept/$1.bc" -o module.ll
+    # The compiler reads the text as it reads the module.
+    sed 's/^\(define internal .*)\) #/\1 noinline #/' module.ll >module.bc
+    xargs -d '\n' "$clang" <"$kept/$1.$2"
+    ${cross}gcc -Os -ffunction-sections -fdata-sections -I"$here/../include" "$work/step.c" module.o -Wl,--gc-sections -o step
+    ${cross}nm -S -t d step | awk -v engine="$1" '
+        tolower($3) == "t" && $4 ~ /callcontrol_step$|::/ {
+            parts = split($4, name, "::")
+            print engine, parts == 1 ? "the entry" : parts == 2 ? name[1] : name[1] "::" name[2], $2
+        }'
+    echo "$1" constants $(($(section "$1/step" .rodata) - $(section none .rodata)))
+    cd "$here"
+}
+echo
+if [ -f "$kept/host.bc" ] && [ -f "$kept/host_small.bc" ]; then
+    options=shipped
+    [ -n "$cross" ] || [ "$(uname -m)" = x86_64 ] || options=here
+    printf '%-44s%10s%10s\n' 'parts of a step, each function by itself' first second
+    { apart host "$options"; apart host_small "$options"; } | awk '
+        { engine = $1; bytes = $NF; sub(/^[^ ]* /, ""); sub(/ [0-9]*$/, ""); all[$0] += bytes; of[engine, $0] += bytes }
+        END { for (part in all) printf "  %-42s%10d%10d\n", part, of["host", part], of["host_small", part] }' | sort
+else
+    echo 'The parts of a step are told apart from what tests/at_hand.sh keeps: run it first.'
+fi

@@ -1,5 +1,5 @@
 //! The code and the stack of `callcontrol_step` in the archive of a set with one call stay what they
-//! were when it got an archive of its own: an entry that weighs on them belongs into another archive.
+//! were with requests 9 and 12 in: an entry that weighs on them belongs into another archive.
 
 use callcontrol_tests::library::BRIDGED;
 use callcontrol_tests::programs::{code_of, stack_used};

@@ -6,6 +6,7 @@ use mathlib.Core.List.{List}
 use denote.Ref.{now}
 use Rattle.records.specs.declared.bodies.Written.{Written}
 use Rattle.records.proofs.Determined as records
+use Rattle.callcontrol.specs.Draft.{asDraft}
 use Rattle.callcontrol.proofs.Determined as callcontrol
 use Rattle.records.proofs.events.read_event.Reads as read-event-promise
 use Rattle.records.proofs.messages.read_message.Reads as read-message-promise
@@ -30,6 +31,21 @@ use Rattle.callcontrol.proofs.call.Call.is_idle.Reads as is-idle-promise
 use Rattle.callcontrol.proofs.call.Call.transmits.Reads as transmits-promise
 use Rattle.callcontrol.proofs.call.state_number.Reads as state-number-promise
 use Rattle.callcontrol.proofs.call.path_number.Reads as path-number-promise
+use Rattle.callcontrol.proofs.row.Row.none.Reads as row-none-promise
+use Rattle.callcontrol.proofs.row.Row.of.Reads as row-of-promise
+use Rattle.callcontrol.proofs.row.Row.asking.Reads as row-asking-promise
+use Rattle.callcontrol.proofs.row.Row.naming.Reads as row-naming-promise
+use Rattle.callcontrol.proofs.rows.plane_granted.Reads as plane-granted-promise
+use Rattle.callcontrol.proofs.rows.plane_or_off.Reads as plane-or-off-promise
+use Rattle.callcontrol.proofs.rows.asked_after.Reads as asked-after-promise
+use Rattle.callcontrol.proofs.rows.restarting.Reads as restarting-promise
+use Rattle.callcontrol.proofs.rows.code_after.Reads as code-after-promise
+use Rattle.callcontrol.proofs.rows.slots_after.Reads as slots-after-promise
+use Rattle.callcontrol.proofs.rows.asked_after_cut.Reads as asked-after-cut-promise
+use Rattle.callcontrol.proofs.rows.asks.Reads as asks-promise
+use Rattle.callcontrol.proofs.settle.timing_by.Reads as timing-by-promise
+use Rattle.callcontrol.proofs.settle.next_by.Reads as next-by-promise
+use Rattle.callcontrol.proofs.settle.settle.Reads as settle-promise
 
 -- ---- records
 
@@ -106,3 +122,51 @@ path-number κs a r₁ r₂ e₁ e₂ p q = p ∙ sym q
 
 pub transmits : (κs : _) (a : _) (r₁ r₂ : _) (e₁ e₂ : _) → transmits-promise.Learnt κs a r₁ e₁ → transmits-promise.Learnt κs a r₂ e₂ → r₁ ≡ r₂
 transmits κs a r₁ r₂ e₁ e₂ p q = p ∙ sym q
+
+-- ---- callcontrol, for an engine of another shape
+
+pub row-none : (κs : _) (a : _) (r₁ r₂ : _) (e₁ e₂ : _) → row-none-promise.Learnt κs a r₁ e₁ → row-none-promise.Learnt κs a r₂ e₂ → r₁ ≡ r₂
+row-none κs a r₁ r₂ e₁ e₂ p q = p ∙ sym q
+
+pub row-of : (κs : _) (a : _) (r₁ r₂ : _) (e₁ e₂ : _) → row-of-promise.Learnt κs a r₁ e₁ → row-of-promise.Learnt κs a r₂ e₂ → r₁ ≡ r₂
+row-of κs a r₁ r₂ e₁ e₂ p q = p ∙ sym q
+
+pub row-asking : (κs : _) (a : _) (r₁ r₂ : _) (e₁ e₂ : _) → row-asking-promise.Learnt κs a r₁ e₁ → row-asking-promise.Learnt κs a r₂ e₂ → r₁ ≡ r₂
+row-asking κs a r₁ r₂ e₁ e₂ p q = p ∙ sym q
+
+pub row-naming : (κs : _) (a : _) (r₁ r₂ : _) (e₁ e₂ : _) → row-naming-promise.Learnt κs a r₁ e₁ → row-naming-promise.Learnt κs a r₂ e₂ → r₁ ≡ r₂
+row-naming κs a r₁ r₂ e₁ e₂ p q = p ∙ sym q
+
+pub plane-granted : (κs : _) (a : _) (r₁ r₂ : _) (e₁ e₂ : _) → plane-granted-promise.Learnt κs a r₁ e₁ → plane-granted-promise.Learnt κs a r₂ e₂ → r₁ ≡ r₂
+plane-granted κs a r₁ r₂ e₁ e₂ p q = p .0 ∙ sym (q .0)
+
+pub plane-or-off : (κs : _) (a : _) (r₁ r₂ : _) (e₁ e₂ : _) → plane-or-off-promise.Learnt κs a r₁ e₁ → plane-or-off-promise.Learnt κs a r₂ e₂ → r₁ ≡ r₂
+plane-or-off κs a r₁ r₂ e₁ e₂ p q = p .0 ∙ sym (q .0)
+
+pub asked-after : (κs : _) (a : _) (r₁ r₂ : _) (e₁ e₂ : _) → asked-after-promise.Learnt κs a r₁ e₁ → asked-after-promise.Learnt κs a r₂ e₂ → r₁ ≡ r₂
+asked-after κs a r₁ r₂ e₁ e₂ p q = p ∙ sym q
+
+pub restarting : (κs : _) (a : _) (r₁ r₂ : _) (e₁ e₂ : _) → restarting-promise.Learnt κs a r₁ e₁ → restarting-promise.Learnt κs a r₂ e₂ → r₁ ≡ r₂
+restarting κs a r₁ r₂ e₁ e₂ p q = p .0 ∙ sym (q .0)
+
+pub code-after : (κs : _) (a : _) (r₁ r₂ : _) (e₁ e₂ : _) → code-after-promise.Learnt κs a r₁ e₁ → code-after-promise.Learnt κs a r₂ e₂ → r₁ ≡ r₂
+code-after κs a r₁ r₂ e₁ e₂ p q = p ∙ sym q
+
+pub slots-after : (κs : _) (a : _) (r₁ r₂ : _) (e₁ e₂ : _) → slots-after-promise.Learnt κs a r₁ e₁ → slots-after-promise.Learnt κs a r₂ e₂ → r₁ ≡ r₂
+slots-after κs a r₁ r₂ e₁ e₂ p q = p ∙ sym q
+
+pub asked-after-cut : (κs : _) (a : _) (r₁ r₂ : _) (e₁ e₂ : _) → asked-after-cut-promise.Learnt κs a r₁ e₁ → asked-after-cut-promise.Learnt κs a r₂ e₂ → r₁ ≡ r₂
+asked-after-cut κs a r₁ r₂ e₁ e₂ p q = p ∙ sym q
+
+pub asks : (κs : _) (a : _) (r₁ r₂ : _) (e₁ e₂ : _) → asks-promise.Learnt κs a r₁ e₁ → asks-promise.Learnt κs a r₂ e₂ → r₁ ≡ r₂
+asks κs a r₁ r₂ e₁ e₂ p q = p ∙ sym q
+
+pub timing-by : (κs : _) (a : _) (r₁ r₂ : _) (e₁ e₂ : _) → timing-by-promise.Learnt κs a r₁ e₁ → timing-by-promise.Learnt κs a r₂ e₂ → r₁ ≡ r₂
+timing-by κs a r₁ r₂ e₁ e₂ p q = p ∙ sym q
+
+pub next-by : (κs : _) (a : _) (r₁ r₂ : _) (e₁ e₂ : _) → next-by-promise.Learnt κs a r₁ e₁ → next-by-promise.Learnt κs a r₂ e₂ → r₁ ≡ r₂
+next-by κs a r₁ r₂ e₁ e₂ p q = p ∙ sym q
+
+-- what a draft says; nothing else of it is read
+pub settle : (κs : _) (a : _) (r₁ r₂ : _) (e₁ e₂ : _) → settle-promise.Learnt κs a r₁ e₁ → settle-promise.Learnt κs a r₂ e₂ → asDraft r₁ ≡ asDraft r₂
+settle κs a r₁ r₂ e₁ e₂ p q = p ∙ sym q

@@ -14,6 +14,12 @@ use Rattle.host.proofs.callcontrol_check_event.Reads as check-event-pro
 use Rattle.host.proofs.callcontrol_check_message.Reads as check-message-promise
 use Rattle.host.proofs.callcontrol_copy_event.Reads as copy-event-promise
 use Rattle.host.proofs.callcontrol_copy_message.Reads as copy-message-promise
+use Rattle.host.proofs.packed.is_record.Reads as is-record-promise
+use Rattle.host.proofs.packed.held.Reads as held-promise
+use Rattle.host.proofs.packed.flag.Reads as flag-promise
+use Rattle.host.proofs.packed.word_at.Reads as word-at-promise
+use Rattle.host.proofs.packed.long_at.Reads as long-at-promise
+use Rattle.host.proofs.packed.pack.Reads as pack-promise
 use Rattle.host.proofs.serial.callcontrol_pieces_fresh.Reads as pieces-fresh-promise
 use Rattle.host.proofs.serial.callcontrol_pieces_next.Reads as pieces-next-promise
 use Rattle.host.proofs.bank.callcontrol_bank_new.Reads as bank-new-promise
@@ -76,3 +82,23 @@ channel-decide κs a r₁ r₂ e₁ e₂ p q = p ∙ sym q
 
 pub channel-ended : (κs : _) (a : _) (r₁ r₂ : _) (e₁ e₂ : _) → channel-ended-promise.Learnt κs a r₁ e₁ → channel-ended-promise.Learnt κs a r₂ e₂ → _≡_ {A = RoomsLeft} (record { result = r₁; rooms = now (e₁ .0); out = now (e₁ .1 .1 .0) }) (record { result = r₂; rooms = now (e₂ .0); out = now (e₂ .1 .1 .0) })
 channel-ended κs a r₁ r₂ e₁ e₂ p q = p ∙ sym q
+
+-- ---- a record's bytes, for the other archives
+
+pub is-record : (κs : _) (a : _) (r₁ r₂ : _) (e₁ e₂ : _) → is-record-promise.Learnt κs a r₁ e₁ → is-record-promise.Learnt κs a r₂ e₂ → r₁ ≡ r₂
+is-record κs a r₁ r₂ e₁ e₂ p q = p ∙ sym q
+
+pub held : (κs : _) (a : _) (r₁ r₂ : _) (e₁ e₂ : _) → held-promise.Learnt κs a r₁ e₁ → held-promise.Learnt κs a r₂ e₂ → r₁ ≡ r₂
+held κs a r₁ r₂ e₁ e₂ p q = p ∙ sym q
+
+pub flag : (κs : _) (a : _) (r₁ r₂ : _) (e₁ e₂ : _) → flag-promise.Learnt κs a r₁ e₁ → flag-promise.Learnt κs a r₂ e₂ → r₁ ≡ r₂
+flag κs a r₁ r₂ e₁ e₂ p q = p ∙ sym q
+
+pub word-at : (κs : _) (a : _) (r₁ r₂ : _) (e₁ e₂ : _) → word-at-promise.Learnt κs a r₁ e₁ → word-at-promise.Learnt κs a r₂ e₂ → r₁ ≡ r₂
+word-at κs a r₁ r₂ e₁ e₂ p q = p ∙ sym q
+
+pub long-at : (κs : _) (a : _) (r₁ r₂ : _) (e₁ e₂ : _) → long-at-promise.Learnt κs a r₁ e₁ → long-at-promise.Learnt κs a r₂ e₂ → r₁ ≡ r₂
+long-at κs a r₁ r₂ e₁ e₂ p q = p ∙ sym q
+
+pub pack : (κs : _) (a : _) (r₁ r₂ : _) (e₁ e₂ : _) → pack-promise.Learnt κs a r₁ e₁ → pack-promise.Learnt κs a r₂ e₂ → now (e₁ .1 .0) ≡ now (e₂ .1 .0)
+pack κs a r₁ r₂ e₁ e₂ p q = p ∙ sym q
