@@ -1,13 +1,16 @@
 -- The promises leave no choice: two results that a function's own `ensures` allows are equal, and so are the buffers that it leaves. `Learnt` is that `ensures` as a
--- caller learns it, of the arguments, the result, and the parameters when it returns. The step of a place of a lent table is proved by a walk and has none: there both sides
--- stand as its `ensures` has them.
-use Prim.Native.Nat.{ℕ, _<_}
+-- caller learns it, of the arguments, the result, and the parameters when it returns. What works on a lent table is proved by a walk and has none: there both sides stand as
+-- the `ensures` has them.
+use Prim.Native.Nat.{ℕ, suc, _-_, _<_}
 use mathlib.Core.Path.{_≡_, refl, sym, _∙_, ap}
+use mathlib.Core.Bool.{Bool, true, false, cond}
 use mathlib.Core.List.{List, []}
 use native.Mathlib.Omega.{arith}
-use lib.Dec.{lit<}
+use borrow.Author.Tests.{ltb-true, ltb-false}
+use lib.Dec.{ltb, lit<}
 use lib.ListN.{set}
 use Rattle.records.specs.declared.events.Event.{Event}
+use Rattle.records.proofs.Laws.{by-test}
 use denote.Ref.{now}
 use Rattle.callcontrol.specs.declared.call.Call.{Call}
 use Rattle.callcontrol.specs.declared.step.Answer.{Answer}
@@ -20,12 +23,15 @@ use Rattle.console.specs.declared.route.Led.{Led}
 use Rattle.console.specs.declared.console.ConsoleStepped.{ConsoleStepped}
 use Rattle.console.specs.Route.{consoleNumber}
 use Rattle.console.specs.declared.console.SoFar.{SoFar}
+use Rattle.console.specs.declared.console.AllStepped.{AllStepped}
 use Rattle.console.specs.Table.{callAt}
-use Rattle.console.specs.Console.{ConsoleOutcome, asConsole, nextOf, OneMore}
+use Rattle.console.specs.Console.{ConsoleOutcome, asConsole, takes, nextOf, OneMore, LaidAll}
 use Rattle.console.specs.Keys.{asLead}
 use Rattle.console.proofs.console.console_step.Reads as console-step-promise
 use Rattle.console.proofs.console.everywhere.Reads as everywhere-promise
+use Rattle.console.proofs.console.own_buffer.Reads as own-buffer-promise
 use Rattle.console.proofs.console.place_step.Reads as place-step-promise
+use Rattle.console.proofs.console.turn.Reads as turn-promise
 use Rattle.console.proofs.route.console_number.Reads as console-number-promise
 use Rattle.console.proofs.route.aim_of.Reads as aim-of-promise
 use Rattle.console.proofs.route.route_of.Reads as route-of-promise
@@ -122,6 +128,29 @@ step-at calls k e p own r₁ r₂ t₁ t₂ b₁ b₂ e₁ e₂ =
     let m = same-more k (callAt calls k) e p own (r₁ .upto) (r₂ .upto) (r₁ .size) (r₂ .size) b₁ b₂ (e₁ .1) (e₂ .1) in
     (λ i. record { upto = m .0 i; size = m .1 .0 i }, (e₁ .0 ∙ sym (e₂ .0), m .1 .1))
 
+-- all places: `upto` is the least number behind which none takes the event
+module _ (calls : List Call) (e : Event) (buffer : List ℕ) where
+  not-below : (r₁ r₂ : AllStepped) (b₁ b₂ : List ℕ) → LaidAll r₁ b₁ calls e buffer → LaidAll r₂ b₂ calls e buffer → r₁ .upto < r₂ .upto → ⊥
+  not-below r₁ r₂ b₁ b₂ m n lt =
+      let w = n .within in
+      let takes-it : takes e (callAt calls (r₂ .upto - 1)) ≡ true = n .tight (r₂ .upto - 1) (omega arith) in
+      let leaves-it : takes e (callAt calls (r₂ .upto - 1)) ≡ false = m .behind (r₂ .upto - 1) (omega arith) (omega arith) in
+      let z : _≡_ {A = ℕ} 0 1 = ap (λ (b : Bool). cond b 0 1) (sym takes-it ∙ leaves-it) in
+      omega arith
+
+  same-upto : (r₁ r₂ : AllStepped) (b₁ b₂ : List ℕ) → LaidAll r₁ b₁ calls e buffer → LaidAll r₂ b₂ calls e buffer → r₁ .upto ≡ r₂ .upto
+  same-upto r₁ r₂ b₁ b₂ m n =
+      by-test (ltb (r₁ .upto) (r₂ .upto)) (λ b. absurd (not-below r₁ r₂ b₁ b₂ m n (ltb-true (r₁ .upto) (r₂ .upto) b)))
+      (λ b. by-test (ltb (r₂ .upto) (r₁ .upto)) (λ c. absurd (not-below r₂ r₁ b₂ b₁ n m (ltb-true (r₂ .upto) (r₁ .upto) c)))
+      (λ c. let x = ltb-false (r₁ .upto) (r₂ .upto) b in let y = ltb-false (r₂ .upto) (r₁ .upto) c in omega arith))
+
+  pub put-all : (r₁ r₂ : AllStepped) (b₁ b₂ : List ℕ) → LaidAll r₁ b₁ calls e buffer → LaidAll r₂ b₂ calls e buffer → (r₁ ≡ r₂) × (b₁ ≡ b₂)
+  put-all r₁ r₂ b₁ b₂ m n =
+      let upto = same-upto r₁ r₂ b₁ b₂ m n in
+      let size = m .size ∙ sym (n .size) in
+      let records = m .records ∙ sym (n .records) in
+      (λ i. record { upto = upto i; size = size i; calls = records i }, m .bytes ∙ sym (n .bytes))
+
 pub console-step : (κs : _) (a : _) (r₁ r₂ : _) (e₁ e₂ : _) → console-step-promise.Learnt κs a r₁ e₁ → console-step-promise.Learnt κs a r₂ e₂ → (r₁ ≡ r₂) × (now (e₁ .1 .1 .1 .0) ≡ now (e₂ .1 .1 .1 .0))
 console-step κs a r₁ r₂ e₁ e₂ p q = same-console _ r₁ r₂ _ _ p q
 
@@ -130,6 +159,15 @@ everywhere κs a r₁ r₂ e₁ e₂ p q = same-console _ r₁ r₂ _ _ p q
 
 pub place-step : (κs : _) (a : _) (r₁ r₂ : _) (e₁ e₂ : _) → place-step-promise.Learnt κs a r₁ e₁ → place-step-promise.Learnt κs a r₂ e₂ → (r₁ ≡ r₂) × (now (e₁ .1 .1 .1 .0) ≡ now (e₂ .1 .1 .1 .0))
 place-step κs a r₁ r₂ e₁ e₂ p q = step-determined.step _ r₁ r₂ _ _ p q
+
+pub turn : (κs : _) (a : _) (r₁ r₂ : _) (e₁ e₂ : _) → turn-promise.Learnt κs a r₁ e₁ → turn-promise.Learnt κs a r₂ e₂ → (r₁ ≡ r₂) × (now (e₁ .1 .1 .1 .1 .0) ≡ now (e₂ .1 .1 .1 .1 .0))
+turn κs a r₁ r₂ e₁ e₂ p q =
+    let m = same-more _ _ _ _ _ (r₁ .upto) (r₂ .upto) (r₁ .size) (r₂ .size) _ _ (p .1) (q .1) in
+    let call = p .0 ∙ sym (q .0) in
+    (λ i. record { upto = m .0 i; size = m .1 .0 i; call = call i }, m .1 .1)
+
+pub own-buffer : (κs : _) (a : _) (r₁ r₂ : _) (e₁ e₂ : _) → own-buffer-promise.Learnt κs a r₁ e₁ → own-buffer-promise.Learnt κs a r₂ e₂ → r₁ ≡ r₂
+own-buffer κs a r₁ r₂ e₁ e₂ p q = p .0 ∙ sym (q .0)
 
 pub console-number : (κs : _) (a : _) (r₁ r₂ : _) (e₁ e₂ : _) → console-number-promise.Learnt κs a r₁ e₁ → console-number-promise.Learnt κs a r₂ e₂ → r₁ ≡ r₂
 console-number κs a r₁ r₂ e₁ e₂ p q = p .0 ∙ sym (q .0)

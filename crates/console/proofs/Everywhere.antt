@@ -235,6 +235,7 @@ pub record Putting (e : Event) (b₀ : List ℕ) (calls : List Call) (b : List �
   pub records : after ≡ allNext (take k calls) e ++ drop k calls
   pub taken : not (eqb (passed .upto) 0) ≡ some? (takes e) (take k calls)
   pub last : passed .upto ≤ k
+  pub tight : (j : ℕ) → passed .upto ≡ suc j → takes e (callAt calls j) ≡ true
   pub left : (j : ℕ) → passed .upto ≤ j → j < k → takes e (callAt calls j) ≡ false
   pub position : passed .size ≡ length (bytesOf (done calls e k))
   pub within : k ≤ 8
@@ -245,7 +246,7 @@ pub put-none : {e : Event} {b : List ℕ} {calls : List Call} → length calls �
     → Putting e b calls b calls (record { upto = 0; size = 0 }) 0
 unfolding bytesOf
 put-none eight room =
-    record { bytes = refl; records = refl; taken = refl; last = omega arith; left = λ j le lt. absurd (omega arith); position = refl; within = omega arith; eight = eight; room = room }
+    record { bytes = refl; records = refl; taken = refl; last = omega arith; tight = λ j is. absurd (omega arith); left = λ j le lt. absurd (omega arith); position = refl; within = omega arith; eight = eight; room = room }
 
 -- a place that takes the event is the last that does
 last-taken : (t : Bool) (k upto : ℕ) → not (eqb (cond t (k + 1) upto) 0) ≡ (t || not (eqb upto 0))
@@ -276,6 +277,7 @@ module _
       record {
         taken = p .taken ∙ ap (λ (z : List Call). some? (takes e) z) (take-all k calls le);
         within = let l = p .last in omega arith;
+        tight = p .tight;
         behind = λ j from lt. p .left j from (omega arith);
         size = p .position ∙ ap (λ (z : List Message). length (bytesOf z)) (done-all calls e k le);
         records =
@@ -317,6 +319,10 @@ module _
       last-is : upto ≡ cond (takes e (callAt calls k)) (k + 1) (passed .upto)
       last-is = more .last ∙ ap (λ (c : Call). cond (takes e c) (k + 1) (passed .upto)) next-call
 
+      tight-by : (t : Bool) → takes e (callAt calls k) ≡ t → (j : ℕ) → cond t (k + 1) (passed .upto) ≡ suc j → takes e (callAt calls j) ≡ true
+      tight-by true t j is = let same : j ≡ k = omega arith in ap (λ (n : ℕ). takes e (callAt calls n)) same ∙ t
+      tight-by false t j is = p .tight j is
+
       left-by : (t : Bool) → takes e (callAt calls k) ≡ t → (j : ℕ) → cond t (k + 1) (passed .upto) ≤ j → j < k + 1 → takes e (callAt calls j) ≡ false
       left-by true t j from below = absurd (omega arith)
       left-by false t j from below =
@@ -354,6 +360,7 @@ module _
                 (ap (λ (z : List Call). some? (takes e) z) (more-of calls e k (omega arith))
                 ∙ some-append (takes e) (take k calls) (callAt calls k));
             last = rw last-is (last-within (takes e (callAt calls k)) k (passed .upto) (p .last));
+            tight = λ j is. tight-by (takes e (callAt calls k)) refl j (sym last-is ∙ is);
             left = λ j from below. left-by (takes e (callAt calls k)) refl j (rw last-is at from) below;
             position = more .behind ∙ ap (λ (z : List Message). passed .size + length (bytesOf z)) same ∙ sym size-more;
             within = omega arith;

@@ -1,7 +1,7 @@
 -- The console's step: the answers in their order, and what each gives back.
 use Prim.Native.Nat.{ℕ, suc, _+_, _≤_, _<_}
 use mathlib.Core.Path.{_≡_}
-use mathlib.Core.Bool.{Bool, false, cond, not}
+use mathlib.Core.Bool.{Bool, true, false, cond, not}
 use mathlib.Core.List.{List, [], _∷_, _++_}
 use lib.Dec.{leb, ltb, eqb}
 use lib.ListN.{length, drop, set}
@@ -127,10 +127,11 @@ pub record OneMore (upto size : ℕ) (now : List ℕ) (k : ℕ) (c : Call) (e : 
   pub behind : size ≡ passed .size + length (bytesOf (part k c e))
   pub bytes : now ≡ sets own (passed .size) (bytesOf (part k c e))
 
--- what all places write is laid in the buffer from its front; behind the last that takes the event none does
+-- what all places write is laid in the buffer from its front; `upto` ends with a place that takes the event, and behind it none does
 pub record LaidAll (r : AllStepped) (now : List ℕ) (calls : List Call) (e : Event) (buffer : List ℕ) : Type 0 where
   pub taken : not (eqb (r .upto) 0) ≡ some? (takes e) calls
   pub within : r .upto ≤ 8
+  pub tight : (j : ℕ) → r .upto ≡ suc j → takes e (callAt calls j) ≡ true
   pub behind : (j : ℕ) → r .upto ≤ j → j < 8 → takes e (callAt calls j) ≡ false
   pub size : r .size ≡ length (bytesOf (writesFrom 0 calls e))
   pub records : r .calls ≡ allNext calls e

@@ -1,7 +1,7 @@
 // One event for the console: the table and the messages go on, or a refusal changes nothing.
 ghost use mathlib.Core.Path.{_≡_};
 ghost use Prim.Native.Nat.{_+_, _<_, _≤_};
-ghost use lib.ListN.{length};
+ghost use lib.ListN.{length, replicate};
 ghost use Rattle.records.specs.declared.messages.Message.{Message};
 ghost use Rattle.records.specs.Bodies.{laid};
 ghost use Rattle.records.specs.Messages.{messageBytes};
@@ -149,6 +149,7 @@ pub fn turn(call: Call, k: usize, event: Event, passed: SoFar, own: &mut [u8]) -
 
 // Room for what eight places write for BREAK or RESUME, whatever their records are.
 pub fn own_buffer() -> [u8; 184]
+    ensures { λ r. ⌜ r ≡ replicate 184 0 ⌝ }
     ensures { λ r. ⌜ 184 ≡ length r ⌝ }
 {
     [0; 184]

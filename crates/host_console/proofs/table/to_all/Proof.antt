@@ -25,7 +25,7 @@ put-all-requires c κs =
     let h = c .before in
     let o = h .before .before in
     let z = o .before .before .before in
-    (z .pre .0, own-room (h .held-table .result) (z .args .event) (o .own-buffer .result) (z .pre .0) (ap length (h .held-table .ensures) ∙ eight-held (z .args .table .now)) (o .own-buffer .ensures))
+    (z .pre .0, own-room (h .held-table .result) (z .args .event) (o .own-buffer .result) (z .pre .0) (ap length (h .held-table .ensures) ∙ eight-held (z .args .table .now)) (o .own-buffer .ensures .1))
 
 mul-result : tie.Need-mul-result
 mul-result c = search needs
@@ -61,7 +61,7 @@ array-share-prefix-own c =
     let h = p .before .before in
     let o = h .before .before in
     let z = o .before .before .before in
-    own-fits (h .held-table .result) (z .args .event) (p .put-all .ensures) (own-room (h .held-table .result) (z .args .event) (o .own-buffer .result) (z .pre .0) (ap length (h .held-table .ensures) ∙ eight-held (z .args .table .now)) (o .own-buffer .ensures))
+    own-fits (h .held-table .result) (z .args .event) (p .put-all .ensures) (own-room (h .held-table .result) (z .args .event) (o .own-buffer .result) (z .pre .0) (ap length (h .held-table .ensures) ∙ eight-held (z .args .table .now)) (o .own-buffer .ensures .1))
 
 slice-aggregate-copy : tie.Need-slice-aggregate-copy
 slice-aggregate-copy c =
@@ -69,7 +69,7 @@ slice-aggregate-copy c =
     let h = p .before .before in
     let o = h .before .before in
     let z = o .before .before .before in
-    front-size _ _ (own-fits (h .held-table .result) (z .args .event) (p .put-all .ensures) (own-room (h .held-table .result) (z .args .event) (o .own-buffer .result) (z .pre .0) (ap length (h .held-table .ensures) ∙ eight-held (z .args .table .now)) (o .own-buffer .ensures)))
+    front-size _ _ (own-fits (h .held-table .result) (z .args .event) (p .put-all .ensures) (own-room (h .held-table .result) (z .args .event) (o .own-buffer .result) (z .pre .0) (ap length (h .held-table .ensures) ∙ eight-held (z .args .table .now)) (o .own-buffer .ensures .1)))
 
 copy-requires : tie.Need-copy-requires
 copy-requires c κs =
@@ -77,7 +77,7 @@ copy-requires c κs =
     let h = p .before .before in
     let o = h .before .before in
     let z = o .before .before .before in
-    front-within _ _ (z .args .out .now) (own-fits (h .held-table .result) (z .args .event) (p .put-all .ensures) (own-room (h .held-table .result) (z .args .event) (o .own-buffer .result) (z .pre .0) (ap length (h .held-table .ensures) ∙ eight-held (z .args .table .now)) (o .own-buffer .ensures))) (c .before .before .if2 .left)
+    front-within _ _ (z .args .out .now) (own-fits (h .held-table .result) (z .args .event) (p .put-all .ensures) (own-room (h .held-table .result) (z .args .event) (o .own-buffer .result) (z .pre .0) (ap length (h .held-table .ensures) ∙ eight-held (z .args .table .now)) (o .own-buffer .ensures .1))) (c .before .before .if2 .left)
 
 pack-table-requires : tie.Need-pack-table-requires
 pack-table-requires c κs =
@@ -110,7 +110,7 @@ returns-3 c =
     let o = h .before .before in
     let z = o .before .before .before in
     all-left (z .args .table .now) (z .args .out .now) (z .args .event) (h .held-table .ensures) (p .put-all .ensures) (λ (i : ℕ). omega (arith, o .before .before .slice-known .given i)) (z .pre .1) (k .before .before .before .before .if1 .left) (k .before .before .before .if2 .left)
-    (own-fits (h .held-table .result) (z .args .event) (p .put-all .ensures) (own-room (h .held-table .result) (z .args .event) (o .own-buffer .result) (z .pre .0) (ap length (h .held-table .ensures) ∙ eight-held (z .args .table .now)) (o .own-buffer .ensures))) (k .copy .ensures .1) (t .pack-table .ensures)
+    (own-fits (h .held-table .result) (z .args .event) (p .put-all .ensures) (own-room (h .held-table .result) (z .args .event) (o .own-buffer .result) (z .pre .0) (ap length (h .held-table .ensures) ∙ eight-held (z .args .table .now)) (o .own-buffer .ensures .1))) (k .copy .ensures .1) (t .pack-table .ensures)
 
 pub to-all-spec : {M : Type 1} → statement M
 to-all-spec =
