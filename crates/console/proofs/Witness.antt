@@ -2,6 +2,8 @@
 use mathlib.Core.Path.{refl}
 use lib.Dec.{lit≤}
 use Rattle.demands.proofs.Computed.{computed}
+use Rattle.demands.specs.Runs.{takenIn}
+use Rattle.demands.specs.History.{noteSlots, readsSlots, slotsByHistory}
 use Rattle.demands.specs.Demands.{restores, quiet}
 use Rattle.demands.specs.Clocks.{logIn, indexOf, noteMessage, noteMessages, noteExpiry, noteLog, runningBy}
 use Rattle.console.specs.Table.{holds, alike, tableSound}
@@ -19,8 +21,21 @@ unfolding computed holds alike tableSound atNamed atLowestIdle outgoing incoming
 room-reached = (refl, refl)
 
 pub premises-met : PremisesMet
-unfolding computed restores quiet holds alike tableSound atNamed atLowestIdle outgoing incoming atHolder routeOf placed atPlace everywhere consoleOf consoleOutcome consoleNext consoleRun wentTo wentIn
-premises-met = record { went = refl; broke = refl; calm = refl; back = refl; restored = refl; came = refl; ended = refl }
+unfolding computed restores quiet takenIn noteSlots readsSlots slotsByHistory holds alike tableSound atNamed atLowestIdle outgoing incoming atHolder routeOf placed atPlace everywhere consoleOf consoleOutcome consoleNext consoleRun wentTo wentIn
+premises-met =
+    record {
+      went = refl;
+      broke = refl;
+      calm = refl;
+      back = refl;
+      restored = refl;
+      came = refl;
+      ended = refl;
+      rings = refl;
+      connected = refl;
+      slots = refl;
+      carried = refl;
+    }
 
 pub three-due-met : ThreeDueMet
 unfolding computed logIn indexOf noteMessage noteMessages noteExpiry noteLog runningBy holds alike tableSound atNamed atLowestIdle outgoing incoming atHolder routeOf placed atPlace everywhere consoleOf consoleOutcome consoleNext consoleRun wentTo wentIn

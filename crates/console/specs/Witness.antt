@@ -2,17 +2,18 @@
 -- that ends by its timers alone.
 use Prim.Native.Nat.{ℕ, zero, suc}
 use mathlib.Core.Path.{_≡_}
-use mathlib.Core.Bool.{Bool, true, _&&_}
+use mathlib.Core.Bool.{Bool, true, false, _&&_}
 use mathlib.Core.List.{List, [], _∷_, _++_}
 use mathlib.Core.Option.{some}
 use lib.Dec.{eqb}
 use lib.ListN.{length, take, drop}
 use Rattle.records.specs.declared.events.Event.the-variants.{Break, DCallRestore}
 use Rattle.callcontrol.specs.declared.call.Call.{Call}
-use Rattle.callcontrol.specs.Call.{stateNumber, pathNumber}
+use Rattle.callcontrol.specs.Call.{stateNumber, pathNumber, freshCall, isIdle, runs, T302}
 use Rattle.console.specs.Table.{callAt, freshTable}
 use Rattle.console.specs.Console.{ConsoleOutcome}
-use Rattle.demands.specs.Runs.{takenBy, ends}
+use Rattle.demands.specs.Runs.{takenBy, takenIn, ends}
+use Rattle.demands.specs.History.{slotsByHistory}
 use Rattle.demands.specs.Demands.{quiet, OnlyDue}
 use Rattle.console.specs.Runs.{ConsoleTurn, consoleOutcome, consoleRun, lentBehind, wentTo, wentIn}
 
@@ -46,7 +47,7 @@ abbrev pub line : ℕ → List ℕ → ℕ → ℕ → Stand → Stand → Line
 line place event answer count first second =
     record { place = place; event = event; answer = answer; count = count; first = first; second = second }
 
--- one transmits, is cut and restored, while the other is set up and ends
+-- one transmits, is cut and restored, while the other is set up and ends; then a third rings at the other's place and is connected with three slots
 abbrev pub twoCalls : List Line
 twoCalls =
     -- SETUP request goes to the lowest IDLE place, whatever place is named; D-CONNECT to the place that has no identifier
@@ -67,6 +68,10 @@ twoCalls =
     -- the second call ends, and the first still transmits; nobody holds 99
     ∷ line 0 (6 ∷ 0 ∷ 14 ∷ 2 ∷ 30 ∷ 0 ∷ []) 0 21 (stand 3 0 1) (stand 0 0 4)
     ∷ line 0 (6 ∷ 0 ∷ 14 ∷ 2 ∷ 99 ∷ 0 ∷ []) 5 0 (stand 3 0 1) (stand 0 0 4)
+    -- SETUP request at the place that is IDLE again; D-ALERT starts T302 there, and D-CONNECT carries slots
+    ∷ line 0 (10 ∷ 0 ∷ 1 ∷ 1 ∷ 8 ∷ 0 ∷ 0 ∷ 0 ∷ 0 ∷ 1 ∷ []) 0 22 (stand 3 0 1) (stand 1 0 4)
+    ∷ line 0 (6 ∷ 0 ∷ 2 ∷ 2 ∷ 40 ∷ 0 ∷ []) 0 22 (stand 3 0 1) (stand 1 0 4)
+    ∷ line 0 (10 ∷ 0 ∷ 3 ∷ 2 ∷ 40 ∷ 0 ∷ 0 ∷ 0 ∷ 3 ∷ 3 ∷ []) 0 37 (stand 3 0 1) (stand 3 0 1)
     ∷ []
 
 abbrev stands : Call → Stand → Bool
@@ -102,7 +107,7 @@ RoomReached =
     (consoleOutcome eightCalls (turn 0 (4 ∷ 0 ∷ 3 ∷ 3 ∷ [])) .count ≡ 128)
     × (consoleOutcome (consoleOutcome eightCalls (turn 0 (4 ∷ 0 ∷ 3 ∷ 3 ∷ [])) .calls) (turn 0 (4 ∷ 0 ∷ 4 ∷ 3 ∷ [])) .count ≡ 184)
 
--- ---- the premises of CutAt, RestoredAt and EndedAt, met in the first run
+-- ---- the premises of CutAt, RestoredAt, EndedAt, SentBeforeT302At and SlottedAt, met in the first run
 
 abbrev turnsOf : List Line → List ConsoleTurn
 turnsOf [] = []
@@ -124,7 +129,8 @@ restores = turn 0 (9 ∷ 0 ∷ 12 ∷ 2 ∷ 21 ∷ 0 ∷ 0 ∷ 0 ∷ 16 ∷ [])
 abbrev releases : ConsoleTurn
 releases = turn 0 (6 ∷ 0 ∷ 14 ∷ 2 ∷ 30 ∷ 0 ∷ [])
 
--- place 0 is cut by the sixth turn and restored by the eleventh, with four turns between; the call at place 1 ends with the twelfth
+-- place 0 is cut by the sixth turn and restored by the eleventh, with four turns between; the call at place 1 ends with the twelfth; T302 runs there after
+-- the fifteenth, and after the sixteenth the slots are 3, of the record and by the taken events
 pub record PremisesMet : Type 0 where
   pub went : wentTo 0 (tableAt 5) breaks ≡ lentBehind 0 breaks ∷ []
   pub broke : takenBy (callAt (tableAt 5) 0) (lentBehind 0 breaks) ≡ some Break
@@ -133,6 +139,10 @@ pub record PremisesMet : Type 0 where
   pub restored : takenBy (callAt (tableAt 10) 0) (lentBehind 0 restores) ≡ some (DCallRestore 21 0 0 16)
   pub came : wentTo 1 (tableAt 11) releases ≡ lentBehind 0 releases ∷ []
   pub ended : ends (callAt (tableAt 11) 1) (lentBehind 0 releases) ≡ true
+  pub rings : runs (callAt (tableAt 15) 1) T302 ≡ true
+  pub connected : isIdle (callAt (tableAt 16) 1) ≡ false
+  pub slots : callAt (tableAt 16) 1 .slots ≡ 3
+  pub carried : slotsByHistory (takenIn freshCall (wentIn 1 freshTable (some-turns 0 16))) ≡ 3
 
 -- ---- the premises of AtMostThreeDueAt and NoneAfterThreeAt, met by the first of the eight calls: T311 ends its transmission, T310 the call and T308 the
 -- release, while another call comes in
