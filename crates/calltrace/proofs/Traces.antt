@@ -1,13 +1,13 @@
 -- The claims of specs/Claims.antt, each proved: every input has one trace, in whatever pieces it comes. Then how the trace of an input grows.
-use Prim.Native.Nat.{ℕ, zero, suc, _+_, _≤_, _<_}
+use Prim.Native.Nat.{ℕ, zero, suc, _+_, _-_, _≤_, _<_}
 use mathlib.Core.Bool.{Bool, true, false, cond}
-use mathlib.Core.Path.{_≡_, refl, sym, _∙_, ap}
+use mathlib.Core.Path.{_≡_, refl, sym, _∙_, ap, subst}
 use mathlib.Core.List.{List, [], _∷_, _++_, append-nil, append-assoc}
 use native.Mathlib.Omega.{arith}
 use borrow.Author.Tests.{le-ltb, ltb-false, ne-eqb}
 use lib.Dec.{ltb}
 use lib.ListN.{length, take, drop, length-append, length-drop, List·getD-append}
-use lib.Seq.{take-append-le, drop-append-le, sets-eq, take-at, length-take-le}
+use lib.Seq.{take-add, take-append-le, drop-append-le, sets-eq, take-at, length-take-le}
 use Rattle.records.specs.Bytes.{number}
 use Rattle.records.specs.Bodies.{Stored}
 use Rattle.callcontrol.specs.declared.call.Call.{Call}
@@ -15,7 +15,7 @@ use Rattle.callcontrol.specs.Call.{freshCall}
 use Rattle.calltrace.specs.declared.block.Ahead.{Ahead}
 use Rattle.calltrace.specs.Line.{header, lineFor}
 use Rattle.calltrace.specs.Block.{aheadIn, outcomeOf, Lines, none, more, Traced}
-use Rattle.calltrace.specs.Trace.{Trace, end, cut, short, whole, Complete}
+use Rattle.calltrace.specs.Trace.{Trace, end, cut, short, whole, Complete, Underway, Due, DueIf, InHandIf}
 use Rattle.calltrace.specs.Claims.{Traceable, EveryTrace, OneTrace, LinesStay, LinesThenTrace, EndTraced}
 
 -- to tell them apart
@@ -140,16 +140,7 @@ pub end-traced : EndTraced
 end-traced [] c h = end
 end-traced (x ∷ xs) c h = rw (ne-eqb (suc (length xs)) 0 (λ e. omega arith)) (cut h (omega arith))
 
--- a trace on its way: the input that was read, what was written of its lines, and what is in hand of both
-pub record Underway (read written : ℕ) (rest : List ℕ) (call : Call) (lines : List ℕ) : Type 0 where
-  pub input : List ℕ
-  pub before : List ℕ
-  pub text : List ℕ
-  pub all-read : length input ≡ read
-  pub all-written : length before ≡ written
-  pub ran : Lines input freshCall rest call text
-  pub said : header ++ text ≡ before ++ lines
-
+-- how a trace on its way grows: it begins with the header,
 pub begins : {old new : List ℕ} {laid : ℕ} → Stored old 0 header laid new → laid ≤ length old → Underway 0 0 [] freshCall (take laid new)
 begins {old} {new} {laid} p h =
     record {
@@ -221,3 +212,57 @@ module _ {read written : ℕ} {rest : List ℕ} {c : Call} where
         traced = lines-traced (u .ran) r;
         said = rw (stored-behind p h) (said-too header (u .text) text (u .before) (take at old) (u .said));
       }
+
+-- lines in hand are due, with nothing behind them
+pub in-hand-due : {read written : ℕ} {rest : List ℕ} {c : Call} {lines : List ℕ} → Underway read written rest c lines → Due read written lines
+in-hand-due {rest = rest} {c = c} u = record { rest = rest; call = c; after = []; underway = rw append-nil u }
+
+-- behind the lines at the front the others are due
+others-due : (complete : Bool) (read written : ℕ) (front others : List ℕ) → DueIf complete read written (front ++ others)
+    → DueIf complete read (written + length front) others
+others-due true read written front others p =
+    record {
+      input = p .input;
+      before = p .before ++ front;
+      text = p .text;
+      all-read = p .all-read;
+      all-written = rw length-append (omega (arith, p .all-written));
+      traced = p .traced;
+      said = p .said ∙ sym (append-assoc (p .before) front others);
+    }
+others-due false read written front others p =
+    let u = p .underway in
+    record {
+      rest = p .rest;
+      call = p .call;
+      after = p .after;
+      underway = record {
+        input = u .input;
+        before = u .before ++ front;
+        text = u .text;
+        all-read = u .all-read;
+        all-written = rw length-append (omega (arith, u .all-written));
+        ran = u .ran;
+        said = u .said ∙ ap (λ (l : List ℕ). u .before ++ l) (append-assoc front others (p .after)) ∙ sym (append-assoc (u .before) front (others ++ p .after));
+      };
+    }
+
+-- so is what is left of the lines that are laid
+pub left-due : (complete : Bool) (read written : ℕ) (lines : List ℕ) (laid done : ℕ) → done ≤ laid → laid ≤ length lines
+    → DueIf complete read written (take laid lines) → DueIf complete read (written + done) (take (laid - done) (drop done lines))
+left-due complete read written lines laid done h k p =
+    let all : laid ≡ done + (laid - done) = omega arith in
+    let long : length (take done lines) ≡ done = length-take-le done lines (omega arith) in
+    let parts : take laid lines ≡ take done lines ++ take (laid - done) (drop done lines) = ap (λ (n : ℕ). take n lines) all ∙ take-add done (laid - done) lines in
+    rw long at (others-due complete read written (take done lines) (take (laid - done) (drop done lines)) (subst (DueIf complete read written) parts p))
+
+-- where lines are due, so is none of them
+none-due : {read written : ℕ} {lines : List ℕ} → Due read written lines → Due read written []
+none-due {lines = lines} p = record { rest = p .rest; call = p .call; after = lines ++ p .after; underway = p .underway }
+
+-- at the end all of the lines in hand are due where they are complete, else none
+pub due-at-end : (complete unwritten : Bool) (read written laid : ℕ) (lines : List ℕ) → InHandIf complete unwritten read written (take laid lines)
+    → DueIf complete read written (take (cond complete laid 0) lines)
+due-at-end true unwritten read written laid lines p = p
+due-at-end false true read written laid lines p = none-due (p .0)
+due-at-end false false read written laid lines p = none-due (p .0)

@@ -8,7 +8,7 @@ use Rattle.callcontrol.specs.declared.call.Call.{Call}
 use Rattle.callcontrol.specs.Call.{freshCall}
 use Rattle.calltrace.specs.declared.block.Ahead.{Ahead}
 use Rattle.calltrace.specs.Line.{header, lineFor, lastLine}
-use Rattle.calltrace.specs.Block.{aheadIn, outcomeOf}
+use Rattle.calltrace.specs.Block.{aheadIn, outcomeOf, Lines}
 
 -- the lines of an input, from a call record on
 pub data Trace : List ℕ → Call → List ℕ → Type 0 where
@@ -28,8 +28,31 @@ pub record Complete (read written : ℕ) (lines : List ℕ) : Type 0 where
   pub traced : Trace input freshCall text
   pub said : header ++ text ≡ before ++ lines
 
--- what is claimed of the lines in hand: they complete a trace, or a write has failed, or as many bytes went by as no run has
+-- a trace on its way: the input that was read, what was written of its lines, and what is in hand of both
+pub record Underway (read written : ℕ) (rest : List ℕ) (call : Call) (lines : List ℕ) : Type 0 where
+  pub input : List ℕ
+  pub before : List ℕ
+  pub text : List ℕ
+  pub all-read : length input ≡ read
+  pub all-written : length before ≡ written
+  pub ran : Lines input freshCall rest call text
+  pub said : header ++ text ≡ before ++ lines
+
+-- lines that are due: they come next in a trace on its way, whatever comes behind them
+pub record Due (read written : ℕ) (lines : List ℕ) : Type 0 where
+  pub rest : List ℕ
+  pub call : Call
+  pub after : List ℕ
+  pub underway : Underway read written rest call (lines ++ after)
+
+-- what is claimed of lines that are written: they come next, and complete the trace where they are said to
+abbrev pub DueIf : (complete : Bool) → ℕ → ℕ → List ℕ → Type 0
+DueIf true read written lines = Complete read written lines
+DueIf false read written lines = Due read written lines
+
+-- what is claimed of the lines in hand: they complete a trace, or they are due, and either there are some, as where a write has failed, or as
+-- many bytes went by as no run has
 abbrev pub InHandIf : (complete unwritten : Bool) → ℕ → ℕ → List ℕ → Type 0
 InHandIf true unwritten read written lines = Complete read written lines
-InHandIf false true read written lines = Unit {0}
-InHandIf false false read written lines = 2 ^ 46 ≤ read + written
+InHandIf false true read written lines = Due read written lines × (0 < length lines)
+InHandIf false false read written lines = Due read written lines × (2 ^ 46 ≤ read + written)

@@ -4,7 +4,7 @@ ghost use Prim.Native.Nat.{_+_, _<_, _≤_};
 ghost use mathlib.Core.Bool.{cond};
 ghost use lib.ListN.{length, take};
 ghost use Rattle.calltrace.specs.Line.{lineMost};
-ghost use Rattle.calltrace.specs.Trace.{InHandIf};
+ghost use Rattle.calltrace.specs.Trace.{DueIf, InHandIf};
 use crate::block::Pause;
 use crate::block::drain;
 use crate::block::keep_rest;
@@ -64,15 +64,25 @@ fn read_behind(bytes: &mut [u8], held: usize) -> Came
     }
 }
 
+// Writes once, and answers how many bytes the C library took. Every line goes out here. Whether the trace is complete and the counts are
+// there for the promise: the bytes that are handed on come next in the trace of what was read, behind those that were written and done.
+fn write_part(part: &[u8], complete: bool, read: usize, written: usize, done: usize) -> usize
+    requires { ⌜ DueIf complete read (written + done) (now part) ⌝ }
+    ensures { λ r. ⌜ r ≤ length (now (part .entry)) ⌝ }
+{
+    io::count(libc::write(STDOUT_FILENO, part), part)
+}
+
 // Writes the lines that are laid, and answers how many of their bytes the C library took: fewer than all where a write failed.
-fn write_lines(lines: &[u8], laid: usize) -> usize
+fn write_lines(lines: &[u8], laid: usize, complete: bool, read: usize, written: usize) -> usize
     requires { ⌜ laid ≤ length (now lines) ⌝ }
+    requires { ⌜ DueIf complete read written (take laid (now lines)) ⌝ }
     ensures { λ r. ⌜ r ≤ laid ⌝ }
 {
     let mut done = 0;
     while done < laid {
         let part = &lines[done..laid];
-        let put = io::count(libc::write(STDOUT_FILENO, part), part);
+        let put = write_part(part, complete, read, written, done);
         if put == 0 {
             return done;
         }
@@ -123,7 +133,7 @@ fn trace(bytes: &mut [u8], lines: &mut [u8]) -> InHand
         let pause = drained.pause;
         match pause {
             Pause::Full => {
-                let done = write_lines(lines, laid);
+                let done = write_lines(lines, laid, false, read, written);
                 if done < laid {
                     return InHand {
                         read,
@@ -185,7 +195,7 @@ fn main() {
     let mut lines = io::large_buffer();
     let last = trace(&mut bytes, &mut lines);
     let due = due_if(last.complete, last.laid);
-    let done = write_lines(&lines, due);
+    let done = write_lines(&lines, due, last.complete, last.read, last.written);
     complain_if(last.unread, b"calltrace: standard input cannot be read\n");
     complain_if(
         last.unwritten | (done < due),

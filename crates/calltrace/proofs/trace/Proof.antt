@@ -10,8 +10,8 @@ use lib.ListN.{length, take, drop, length-drop}
 use lib.Seq.{length-take-le, take-add}
 use Rattle.calltrace.specs.declared.block.Pause.{Pause}
 use Rattle.calltrace.specs.Block.{PauseIn}
-use Rattle.calltrace.specs.Trace.{short}
-use Rattle.calltrace.proofs.Traces.{Underway, begins, goes-on, writes, reads-on, ends, end-traced}
+use Rattle.calltrace.specs.Trace.{Underway, short}
+use Rattle.calltrace.proofs.Traces.{begins, goes-on, writes, reads-on, ends, end-traced, in-hand-due}
 use Rattle.calltrace.proofs.trace.Statement.{statement}
 use Rattle.calltrace.proofs.trace.Tie as tie
 
@@ -121,10 +121,13 @@ trace-spec =
     (λ c. sym (held-part (c .before .before)))
     (λ c κs. omega (arith, held-part (c .before .before .before)))
     (λ c. search needs)
-    (λ c κs. laid-in (full-after (c .before)))
+    (λ c κs. let d = full-after (c .before) in (laid-in d, in-hand-due (underway d)))
     (λ c. l (full-after (c .before .before .before)) .loop .inv .0)
     (λ c. let d = full-after (c .before .before .before) in omega (arith, lines-kept d, same-lines d))
-    (λ c. let d = full-after (c .before .before .before) in (omega (arith, laid-in d, lines-kept d, same-lines d), tt))
+    (λ c. let d = full-after (c .before .before .before) in (
+      omega (arith, laid-in d, lines-kept d, same-lines d),
+      (in-hand-due (underway d), rw (length-take-le (d .drain .result .laid) (lines d) (laid-in d)) (laid-some (c .before .before .before))),
+    ))
     (λ c. let d = full-after (c .before .before .before) in omega (arith, laid-in d, lines-most d, l d .loop .inv .7))
     (λ c. omega arith)
     (λ c.
@@ -208,4 +211,7 @@ trace-spec =
     ))
     (λ c. c .before .loop .inv .0)
     (λ c. omega (arith, c .before .loop .inv .1, c .before .before .before .before .before .put-header .kept .0))
-    (λ c. (omega (arith, c .before .loop .inv .1, c .before .loop .inv .4, c .before .before .before .before .before .put-header .kept .0), omega (arith, c .before .loop .inv .8))))
+    (λ c. (
+      omega (arith, c .before .loop .inv .1, c .before .loop .inv .4, c .before .before .before .before .before .put-header .kept .0),
+      (in-hand-due (c .before .loop .inv .5), omega (arith, c .before .loop .inv .8)),
+    )))
