@@ -264,5 +264,5 @@ none-due {lines = lines} p = record { rest = p .rest; call = p .call; after = li
 pub due-at-end : (complete unwritten : Bool) (read written laid : ℕ) (lines : List ℕ) → InHandIf complete unwritten read written (take laid lines)
     → DueIf complete read written (take (cond complete laid 0) lines)
 due-at-end true unwritten read written laid lines p = p
-due-at-end false true read written laid lines p = none-due (p .0)
-due-at-end false false read written laid lines p = none-due (p .0)
+due-at-end false true read written laid lines p = none-due (p .1)
+due-at-end false false read written laid lines p = none-due (p .1)

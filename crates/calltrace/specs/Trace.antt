@@ -54,5 +54,5 @@ DueIf false read written lines = Due read written lines
 -- many bytes went by as no run has
 abbrev pub InHandIf : (complete unwritten : Bool) → ℕ → ℕ → List ℕ → Type 0
 InHandIf true unwritten read written lines = Complete read written lines
-InHandIf false true read written lines = Due read written lines × (0 < length lines)
-InHandIf false false read written lines = Due read written lines × (2 ^ 46 ≤ read + written)
+InHandIf false true read written lines = (0 < length lines) × Due read written lines
+InHandIf false false read written lines = (2 ^ 46 ≤ read + written) × Due read written lines

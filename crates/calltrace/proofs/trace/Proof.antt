@@ -126,7 +126,7 @@ trace-spec =
     (λ c. let d = full-after (c .before .before .before) in omega (arith, lines-kept d, same-lines d))
     (λ c. let d = full-after (c .before .before .before) in (
       omega (arith, laid-in d, lines-kept d, same-lines d),
-      (in-hand-due (underway d), rw (length-take-le (d .drain .result .laid) (lines d) (laid-in d)) (laid-some (c .before .before .before))),
+      (omega (arith, length-take-le (d .drain .result .laid) (lines d) (laid-in d), laid-some (c .before .before .before)), in-hand-due (underway d)),
     ))
     (λ c. let d = full-after (c .before .before .before) in omega (arith, laid-in d, lines-most d, l d .loop .inv .7))
     (λ c. omega arith)
@@ -213,5 +213,5 @@ trace-spec =
     (λ c. omega (arith, c .before .loop .inv .1, c .before .before .before .before .before .put-header .kept .0))
     (λ c. (
       omega (arith, c .before .loop .inv .1, c .before .loop .inv .4, c .before .before .before .before .before .put-header .kept .0),
-      (in-hand-due (c .before .loop .inv .5), omega (arith, c .before .loop .inv .8)),
+      (omega (arith, c .before .loop .inv .8), in-hand-due (c .before .loop .inv .5)),
     )))
