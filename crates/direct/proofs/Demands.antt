@@ -168,6 +168,7 @@ module _ (t : Table) (ok : laws.Lawful t) where
     round.read-writes-back t ok,
     places.place-is-wrong t ok,
     places.wrong-has-place t ok,
+    places.place-only-with-four t ok,
   )
 
 pub both-round-trip : claims.BothRoundTrip

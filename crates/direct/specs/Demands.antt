@@ -10,7 +10,7 @@ use lib.Seq.{sets}
 use Rattle.records.specs.Bytes.{number}
 use Rattle.records.specs.Bodies.{size, numbersAt, allFit}
 use Rattle.records.specs.Tables.{Table, Read, taken, refused, listed, known, find, read, fine}
-use Rattle.records.specs.Laws.{missing, numbers, NoneShared, WrittenReadsBack, WriterReadsBack, ReadIsWrittenBack, ReadWritesBack, PlaceIsWrong, WrongHasPlace}
+use Rattle.records.specs.Laws.{missing, numbers, NoneShared, WrittenReadsBack, WriterReadsBack, ReadIsWrittenBack, ReadWritesBack, PlaceIsWrong, WrongHasPlace, PlaceOnlyWithFour as ReaderPlaceOnlyWithFour}
 use Rattle.records.specs.Events as document01
 use Rattle.records.specs.Messages as document01m
 use Rattle.direct.specs.declared.events.Event.{Event}
@@ -163,10 +163,10 @@ ReadsBack =
     (ts : List Turn) (t : Turn) →
     Reads (take (outcome (run freshCall ts) t .count) (outcome (run freshCall ts) t .buffer)) (writtenBy (run freshCall ts) t)
 
--- both tables round-trip, both ways, and 4 has the place of the first field that is wrong
+-- both tables round-trip, both ways, and 4, which alone has a place, has that of the first field that is wrong
 abbrev pub RoundTrips : Table → Type 0
 RoundTrips t =
-    WrittenReadsBack t × WriterReadsBack t × ReadIsWrittenBack t × ReadWritesBack t × PlaceIsWrong t × WrongHasPlace t
+    WrittenReadsBack t × WriterReadsBack t × ReadIsWrittenBack t × ReadWritesBack t × PlaceIsWrong t × WrongHasPlace t × ReaderPlaceOnlyWithFour t
 
 abbrev pub BothRoundTrip : Type 0
 BothRoundTrip = RoundTrips events × RoundTrips messages
