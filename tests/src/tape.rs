@@ -27,6 +27,11 @@ impl Tape {
         })
     }
 
+    /// Those that are whole, which a file or a serial line goes on behind.
+    pub fn whole(&self) -> impl Iterator<Item = &[u8]> {
+        self.events().filter(|event| whole(event))
+    }
+
     /// The events one after another, each after its length as u32: what a program of `bridge/` plays.
     pub fn with_lengths(&self) -> Vec<u8> {
         let mut bytes = Vec::new();
@@ -36,6 +41,11 @@ impl Tape {
         }
         bytes
     }
+}
+
+/// Whether these bytes are as long as their length field says.
+pub fn whole(event: &[u8]) -> bool {
+    event.len() >= 4 && usize::from(u16::from_le_bytes([event[0], event[1]])) == event.len()
 }
 
 /// Calls set up, granted, paused, broken, restored and released, one after another from fresh;

@@ -24,14 +24,17 @@ pub(super) mod exported {
 
 // Sound for the reason that stands in direct.rs.
 
+#[inline]
 pub fn new(bank: &mut [u8], reading: u32) -> u32 {
     unsafe { exported::callcontrol_bank_new(bank.as_mut_ptr(), bank.len(), reading) }
 }
 
+#[inline]
 pub fn stop(bank: &mut [u8], timer: u16) -> u32 {
     unsafe { exported::callcontrol_bank_stop(bank.as_mut_ptr(), bank.len(), timer) }
 }
 
+#[inline]
 pub fn start(bank: &mut [u8], table: &[u32], timer: u16, code: u8) -> u32 {
     unsafe {
         exported::callcontrol_bank_start(
@@ -45,6 +48,7 @@ pub fn start(bank: &mut [u8], table: &[u32], timer: u16, code: u8) -> u32 {
     }
 }
 
+#[inline]
 pub fn advance(bank: &mut [u8], reading: u32, due: &mut [u16]) -> u32 {
     unsafe {
         exported::callcontrol_bank_advance(

@@ -41,10 +41,12 @@ mod exported {
 
 // Sound for the reason that stands in direct.rs.
 
+#[inline]
 pub fn fresh(rooms: &mut [u8]) -> u32 {
     unsafe { exported::callcontrol_channel_fresh(rooms.as_mut_ptr(), rooms.len()) }
 }
 
+#[inline]
 pub fn ask(rooms: &mut [u8], number: u16, call: u16, asked: u8, out: &mut [u8]) -> u32 {
     unsafe {
         exported::callcontrol_channel_ask(
@@ -59,6 +61,7 @@ pub fn ask(rooms: &mut [u8], number: u16, call: u16, asked: u8, out: &mut [u8]) 
     }
 }
 
+#[inline]
 pub fn pdu(rooms: &mut [u8], number: u16, call: u16, result: u32, out: &mut [u8]) -> u32 {
     unsafe {
         exported::callcontrol_channel_pdu(
@@ -73,6 +76,7 @@ pub fn pdu(rooms: &mut [u8], number: u16, call: u16, result: u32, out: &mut [u8]
     }
 }
 
+#[inline]
 pub fn decide(rooms: &mut [u8], number: u16, decision: u8, out: &mut [u8]) -> u32 {
     unsafe {
         exported::callcontrol_channel_decide(
@@ -86,6 +90,7 @@ pub fn decide(rooms: &mut [u8], number: u16, decision: u8, out: &mut [u8]) -> u3
     }
 }
 
+#[inline]
 pub fn ended(rooms: &mut [u8], call: u16, out: &mut [u8]) -> u32 {
     unsafe {
         exported::callcontrol_channel_ended(

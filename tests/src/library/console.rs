@@ -17,6 +17,7 @@ mod exported {
 
 // Sound for the reason that stands in direct.rs.
 
+#[inline]
 pub fn fresh(table: &mut [u8]) -> u32 {
     unsafe { exported::callcontrol_console_fresh(table.as_mut_ptr(), table.len()) }
 }

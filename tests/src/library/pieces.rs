@@ -26,10 +26,12 @@ mod exported {
 
 // Sound for the reason that stands in direct.rs.
 
+#[inline]
 pub fn fresh(reader: &mut [u8]) -> u32 {
     unsafe { exported::callcontrol_pieces_fresh(reader.as_mut_ptr(), reader.len()) }
 }
 
+#[inline]
 pub fn next(reader: &mut [u8], carry: &mut [u8], piece: &[u8]) -> u32 {
     unsafe {
         exported::callcontrol_pieces_next(
@@ -44,6 +46,7 @@ pub fn next(reader: &mut [u8], carry: &mut [u8], piece: &[u8]) -> u32 {
 }
 
 /// The record that `next` handed on with this place and size, copied.
+#[inline]
 pub fn record_in(place: u8, size: u8, carry: &[u8], piece: &[u8], out: &mut [u8]) -> u32 {
     unsafe {
         exported::callcontrol_test_record_in(

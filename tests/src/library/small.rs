@@ -15,6 +15,7 @@ extern "C" {
 
 // Sound for the reason that `direct` gives.
 
+#[inline]
 pub fn fresh(record: &mut [u8]) -> u32 {
     unsafe { small_callcontrol_fresh(record.as_mut_ptr(), record.len()) }
 }

@@ -1,15 +1,14 @@
 //! How long one call of the bank takes: the library beside the account, on the same orders and
-//! readings, in one run.
+//! readings, in one run. There is no account of it in C.
 //!
 //! The account is measured behind the same interface as the library (39 packed bytes in and out) and
-//! once more with the bank kept as a struct in 64-bit time. Rounds alternate, and the best of each counts.
+//! once more with the bank kept as a struct in 64-bit time.
 
+use crate::rounds::{best, head, line, ROUNDS};
 use callcontrol_tests::account::bank::{self, Bank, BANK_LEN, LONGEST, TABLE_LEN};
 use callcontrol_tests::library;
 use std::hint::black_box;
-use std::time::Instant;
 
-const ROUNDS: usize = 300;
 const CALLS: usize = 4096;
 const TIMERS: [u16; 7] = [301, 302, 303, 306, 308, 310, 311];
 /// Before the wrap, which every case goes over.
@@ -18,17 +17,19 @@ const FIRST: u32 = u32::MAX - 2000;
 /// Deadlines by which all seven are due 100 ms on, in no order of their numbers, two of them equal.
 const SOON: [u32; TABLE_LEN] =
     [70, 20, 90, 20, 50, 10, 60, 60, 60, 60, 60, 60, 60, 60, 60, 60, 60, 60, 60, 60, 60, 60];
+const IN_ORDER: [u16; 7] = [311, 302, 306, 308, 310, 301, 303];
 const LATE: [u32; TABLE_LEN] = [LONGEST; TABLE_LEN];
 
 /// A bank as a host holds it.
 trait Held: Copy {
-    fn new(reading: u32) -> Self;
+    /// With what the call returned.
+    fn new(reading: u32) -> (Self, u32);
     fn stop(&mut self, timer: u16) -> u32;
     fn start(&mut self, table: &[u32], timer: u16, code: u8) -> u32;
     fn advance(&mut self, reading: u32, due: &mut [u16]) -> u32;
 
     fn started(table: &[u32]) -> Self {
-        let mut held = Self::new(FIRST);
+        let (mut held, _) = Self::new(FIRST);
         for timer in TIMERS {
             held.start(table, timer, 0);
         }
@@ -40,10 +41,10 @@ trait Held: Copy {
 struct Library([u8; BANK_LEN]);
 
 impl Held for Library {
-    fn new(reading: u32) -> Library {
+    fn new(reading: u32) -> (Library, u32) {
         let mut bytes = [0; BANK_LEN];
-        library::bank::new(&mut bytes, reading);
-        Library(bytes)
+        let word = library::bank::new(&mut bytes, reading);
+        (Library(bytes), word)
     }
     fn stop(&mut self, timer: u16) -> u32 {
         library::bank::stop(&mut self.0, timer)
@@ -62,10 +63,10 @@ struct Packed([u8; BANK_LEN]);
 
 impl Held for Packed {
     #[inline(never)]
-    fn new(reading: u32) -> Packed {
+    fn new(reading: u32) -> (Packed, u32) {
         let mut bytes = [0; BANK_LEN];
-        bank::new(&mut bytes, reading);
-        Packed(bytes)
+        let word = bank::new(&mut bytes, reading);
+        (Packed(bytes), word)
     }
     #[inline(never)]
     fn stop(&mut self, timer: u16) -> u32 {
@@ -86,8 +87,8 @@ struct Unpacked(Bank);
 
 impl Held for Unpacked {
     #[inline(never)]
-    fn new(reading: u32) -> Unpacked {
-        Unpacked(Bank::new(u64::from(reading)))
+    fn new(reading: u32) -> (Unpacked, u32) {
+        (Unpacked(Bank::new(u64::from(reading))), BANK_LEN as u32)
     }
     #[inline(never)]
     fn stop(&mut self, timer: u16) -> u32 {
@@ -107,6 +108,19 @@ impl Held for Unpacked {
 fn add(sum: u64, word: u32, due: &[u16]) -> u64 {
     due.iter().fold(sum.wrapping_mul(31).wrapping_add(u64::from(word)), |sum, &timer| {
         sum.wrapping_mul(31).wrapping_add(u64::from(timer))
+    })
+}
+
+/// What all calls of a case give where each gives this.
+fn all(word: u32, due: &[u16]) -> u64 {
+    (0..CALLS).fold(0, |sum, _| add(sum, word, due))
+}
+
+fn news<H: Held>() -> u64 {
+    (0..CALLS as u32).fold(0, |sum, passed| {
+        let (held, word) = H::new(black_box(FIRST.wrapping_add(passed)));
+        black_box(&held);
+        add(sum, word, &[])
     })
 }
 
@@ -132,7 +146,7 @@ fn all_seven_due<H: Held>() -> u64 {
 }
 
 fn starts<H: Held>() -> u64 {
-    let mut held = H::new(FIRST);
+    let (mut held, _) = H::new(FIRST);
     (0..CALLS).fold(0, |sum, call| {
         let (timer, code) = (TIMERS[call % 7], (call % 16) as u8);
         add(sum, held.start(black_box(&SOON), black_box(timer), black_box(code)), &[])
@@ -146,40 +160,31 @@ fn stops<H: Held>() -> u64 {
 
 pub fn main() {
     type Case = fn() -> u64;
-    let cases: [(&str, [Case; 3]); 4] = [
+    let cases: [(&str, u64, [Case; 3]); 5] = [
         (
-            "advance, nothing due",
+            "bank_new",
+            all(BANK_LEN as u32, &[]),
+            [news::<Library>, news::<Packed>, news::<Unpacked>],
+        ),
+        (
+            "bank_advance, nothing due",
+            all(0, &[0; 7]),
             [nothing_due::<Library>, nothing_due::<Packed>, nothing_due::<Unpacked>],
         ),
         (
-            "advance, all seven due",
+            "bank_advance, all seven due",
+            all(7, &IN_ORDER),
             [all_seven_due::<Library>, all_seven_due::<Packed>, all_seven_due::<Unpacked>],
         ),
-        ("start", [starts::<Library>, starts::<Packed>, starts::<Unpacked>]),
-        ("stop", [stops::<Library>, stops::<Packed>, stops::<Unpacked>]),
+        ("bank_start", all(0, &[]), [starts::<Library>, starts::<Packed>, starts::<Unpacked>]),
+        ("bank_stop", all(0, &[]), [stops::<Library>, stops::<Packed>, stops::<Unpacked>]),
     ];
-    println!("bank, ns per call, best of {ROUNDS} alternating rounds:");
-    println!(
-        "  {:<26}{:>10}{:>10}{:>10}{:>16}",
-        "", "library", "packed", "struct", "library/packed"
-    );
-    for (name, sides) in cases {
-        let mut best = [f64::INFINITY; 3];
-        let expected = sides[1]();
-        for _ in 0..ROUNDS {
-            for (side, best) in sides.iter().zip(&mut best) {
-                let start = Instant::now();
-                let sum = side();
-                *best = best.min(start.elapsed().as_nanos() as f64 / CALLS as f64);
-                assert_eq!(sum, expected, "{name} went another way");
-            }
-        }
-        println!(
-            "  {name:<26}{:>10.1}{:>10.1}{:>10.1}{:>16.2}",
-            best[0],
-            best[1],
-            best[2],
-            best[0] / best[1]
-        );
+    println!("In the column struct the account keeps the bank as a struct, in 64-bit time.");
+    head("timers kept by the library (no account in C)", &["account", "struct"]);
+    for (name, expected, sides) in cases {
+        assert!(sides.iter().all(|side| side() == expected), "{name}: it went another way");
+        let times =
+            best(name, ROUNDS, CALLS, sides.each_ref().map(|side| side as &dyn Fn() -> u64));
+        line(name, CALLS, CALLS, times);
     }
 }

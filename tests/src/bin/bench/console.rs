@@ -1,17 +1,17 @@
-//! How long one step of the console takes: the library beside the account, on the same tape of events
-//! for up to eight calls, in one run.
+//! How long one step of the console takes: the library beside the account and plain C, on the same tape of
+//! events for up to eight calls, in one run.
 //!
 //! The account is measured behind the same interface as the library (176 packed bytes in and out) and
-//! once more with the eight calls kept as structs. Rounds alternate, and the best of each counts.
-//! Then the events of the tape by where they go, each from the table it met on the tape.
+//! once more with the eight calls kept as structs. Then the events of the tape by where they go, each from
+//! the table it met on the tape, and a fresh table.
 
+use crate::rounds::{best, entry, head, line};
 use callcontrol_tests::account::console::{self, Console, Goes, TABLE_LEN};
 use callcontrol_tests::account::Event;
 use callcontrol_tests::library;
 use callcontrol_tests::tape::{console_tape, ConsoleTape, CONSOLE_OUT_LEN, EVENTS};
 use callcontrol_tests::yardstick;
 use std::hint::black_box;
-use std::time::Instant;
 
 const ROUNDS: usize = 100;
 /// Turns of one kind: as many tables as the processor keeps at hand.
@@ -48,22 +48,6 @@ fn struct_step(console: &mut Console, place: u8, event: &[u8], out: &mut [u8]) -
     }
 }
 
-fn run_library(tape: &ConsoleTape) -> Sum {
-    run_packed(tape, library::console::step)
-}
-
-fn run_account(tape: &ConsoleTape) -> Sum {
-    run_packed(tape, account_step)
-}
-
-fn run_quick_c(tape: &ConsoleTape) -> Sum {
-    run_packed(tape, yardstick::quick::console_step)
-}
-
-fn run_small_c(tape: &ConsoleTape) -> Sum {
-    run_packed(tape, yardstick::small::console_step)
-}
-
 fn run_struct(tape: &ConsoleTape) -> Sum {
     let mut console = Console::FRESH;
     let mut out = [0; CONSOLE_OUT_LEN];
@@ -89,64 +73,61 @@ pub fn main() {
         busy as f64 / EVENTS as f64
     );
 
-    type Run = fn(&ConsoleTape) -> Sum;
-    let runs: [(&str, Run); 5] = [
-        ("library", run_library),
-        ("account, packed table", run_account),
-        ("account, table kept as structs", run_struct),
-        ("plain C, -O3", run_quick_c),
-        ("plain C, -Os", run_small_c),
-    ];
-    let mut best = [f64::INFINITY; 5];
-    let expected = run_account(&tape);
-    for _ in 0..ROUNDS {
-        for (place, (name, run)) in runs.iter().enumerate() {
-            let start = Instant::now();
-            let sum = run(black_box(&tape));
-            let elapsed = start.elapsed().as_nanos() as f64 / EVENTS as f64;
-            assert_eq!(sum, expected, "{name} went another way");
-            best[place] = best[place].min(elapsed);
-        }
-    }
-    println!("best of {ROUNDS} alternating rounds:");
-    for ((name, _), best) in runs.iter().zip(best) {
-        println!("  {name:<34}{best:>8.1} ns per step");
-    }
-    println!("  {:<34}{:>8.2}", "ratio library / account, packed", best[0] / best[1]);
-    println!("  {:<34}{:>8.2}", "ratio library / account, structs", best[0] / best[2]);
-    println!("  {:<34}{:>8.2}", "ratio library / plain C, -O3", best[0] / best[3]);
-    println!("  {:<34}{:>8.2}", "ratio library / plain C, -Os", best[0] / best[4]);
-
-    println!("by where the event goes, ns per step and ratio:");
-    println!(
-        "  {:<34}{:>8}{:>10}{:>10}{:>8}{:>8}{:>8}",
-        "", "on tape", "library", "packed", "ratio", "C -O3", "ratio"
+    let times = best(
+        "the console's tape",
+        ROUNDS,
+        EVENTS,
+        [
+            &|| run_packed(black_box(&tape), library::console::step),
+            &|| run_packed(black_box(&tape), account_step),
+            &|| run_struct(black_box(&tape)),
+            &|| run_packed(black_box(&tape), yardstick::quick::console_step),
+            &|| run_packed(black_box(&tape), yardstick::small::console_step),
+        ],
     );
-    for (kind, turns, on_tape) in kinds(&tape) {
-        let expected = replay(&turns, account_step);
-        let mut best = [f64::INFINITY; 3];
-        for _ in 0..ROUNDS {
-            let start = Instant::now();
-            assert_eq!(replay(black_box(&turns), library::console::step), expected, "{kind}");
-            best[0] = best[0].min(start.elapsed().as_nanos() as f64 / turns.len() as f64);
-            let start = Instant::now();
-            assert_eq!(replay(black_box(&turns), account_step), expected, "{kind}");
-            best[1] = best[1].min(start.elapsed().as_nanos() as f64 / turns.len() as f64);
-            let start = Instant::now();
-            assert_eq!(
-                replay(black_box(&turns), yardstick::quick::console_step),
-                expected,
-                "{kind}"
-            );
-            best[2] = best[2].min(start.elapsed().as_nanos() as f64 / turns.len() as f64);
-        }
-        let [library, packed, quick] = best;
-        println!(
-            "  {kind:<34}{on_tape:>8}{library:>10.1}{packed:>10.1}{:>8.2}{quick:>8.1}{:>8.2}",
-            library / packed,
-            library / quick
-        );
+    println!("best of {ROUNDS} alternating rounds:");
+    let names = [
+        "library",
+        "account, packed table",
+        "account, table kept as structs",
+        "plain C, -O3",
+        "plain C, -Os",
+    ];
+    println!("  {:<34}{:>8}{:>15}", "", "ns", "library/");
+    for (name, it) in names.into_iter().zip(times) {
+        println!("  {name:<34}{it:>8.1}{:>15.2}", times[0] / it);
     }
+
+    let others = ["account", "C -O3", "C -Os"];
+    head("console_step by where the event goes", &others);
+    for (kind, turns, on_tape) in kinds(&tape) {
+        let name = format!("{kind}, {on_tape} on the tape");
+        let (taken, times) = entry(
+            &name,
+            &turns,
+            [
+                |turn, lent| turn.step(lent, library::console::step),
+                |turn, lent| turn.step(lent, account_step),
+                |turn, lent| turn.step(lent, yardstick::quick::console_step),
+                |turn, lent| turn.step(lent, yardstick::small::console_step),
+            ],
+        );
+        line(&name, turns.len(), taken, times);
+    }
+
+    head("console_fresh", &others);
+    let (taken, times) = entry(
+        "console_fresh",
+        &[(); EVENTS],
+        [
+            |_, lent| library::console::fresh(&mut lent[..TABLE_LEN]),
+            |_, lent| console::fresh(&mut lent[..TABLE_LEN]),
+            |_, lent| yardstick::quick::console_fresh(&mut lent[..TABLE_LEN]),
+            |_, lent| yardstick::small::console_fresh(&mut lent[..TABLE_LEN]),
+        ],
+    );
+    assert_eq!(taken, EVENTS, "each call makes a table");
+    line("console_fresh", EVENTS, taken, times);
 }
 
 /// An event with the table that it met on the tape.
@@ -156,15 +137,14 @@ struct Turn<'a> {
     event: &'a [u8],
 }
 
-/// The table is put back before each call; that takes each side the same.
-fn replay(turns: &[Turn], step: impl Fn(&mut [u8], u8, &[u8], &mut [u8]) -> u32) -> u64 {
-    let mut out = [0; CONSOLE_OUT_LEN];
-    turns.iter().fold(0, |words: u64, turn| {
-        let mut table = turn.table;
-        let word = step(&mut table, turn.place, turn.event, black_box(&mut out));
-        black_box(&table);
-        words.wrapping_mul(31).wrapping_add(u64::from(word))
-    })
+impl Turn<'_> {
+    /// The table is put back before each call, behind what is written; that takes each side the same.
+    fn step(&self, lent: &mut [u8], step: impl Fn(&mut [u8], u8, &[u8], &mut [u8]) -> u32) -> u32 {
+        let (out, behind) = lent.split_at_mut(CONSOLE_OUT_LEN);
+        let table = &mut behind[..TABLE_LEN];
+        table.copy_from_slice(&self.table);
+        step(table, self.place, self.event, out)
+    }
 }
 
 /// The first turns of each kind, and how many the tape has.

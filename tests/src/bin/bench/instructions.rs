@@ -6,33 +6,37 @@ use callcontrol_tests::account::{boundary, Call};
 use callcontrol_tests::library;
 use callcontrol_tests::programs;
 use callcontrol_tests::request::{Function, Request};
-use callcontrol_tests::tape::{tape, OUT_LEN};
+use callcontrol_tests::tape::{tape, tape_with_slots, OUT_LEN};
 use std::io::{BufRead, BufReader, Write};
 use std::process::{Command, Stdio};
 
 const STEPS: usize = 2000;
 
 pub fn main() {
-    let (mut steps, mut second, mut refusals) = (Vec::new(), Vec::new(), Vec::new());
-    let mut record = Call::FRESH.pack();
-    for event in tape().events().take(STEPS) {
-        let step = Request::step(&record, event, OUT_LEN, 0);
-        step.push(&mut steps);
-        Request { function: Function::SmallStep, ..step }.push(&mut second);
-        // What any call takes: one that is refused at once.
-        Request::fresh(&[], 0).push(&mut refusals);
-        boundary::step(&mut record, event, &mut [0; OUT_LEN]);
-    }
-    match (count(&steps), count(&second), count(&refusals)) {
-        (Some(steps), Some(second), Some(refusals)) => {
-            let [each, second] = [steps, second].map(|all| all.saturating_sub(refusals) / STEPS);
+    for (what, tape) in [("without slots", tape()), ("with slots", tape_with_slots())] {
+        let (mut steps, mut second, mut refusals) = (Vec::new(), Vec::new(), Vec::new());
+        let mut record = Call::FRESH.pack();
+        for event in tape.events().take(STEPS) {
+            let step = Request::step(&record, event, OUT_LEN, 0);
+            step.push(&mut steps);
+            Request { function: Function::SmallStep, ..step }.push(&mut second);
+            // What any call takes: one that is refused at once.
+            Request::fresh(&[], 0).push(&mut refusals);
+            boundary::step(&mut record, event, &mut [0; OUT_LEN]);
+        }
+        let (Some(steps), Some(second), Some(refusals)) =
+            (count(&steps), count(&second), count(&refusals))
+        else {
             println!(
-                "{each} instructions per step, {second} by the second engine, over {STEPS} steps of the tape"
+                "Instructions are not counted: that takes an emulator that logs, or valgrind."
             );
-        }
-        _ => {
-            println!("Instructions are not counted: that takes an emulator that logs, or valgrind.")
-        }
+            return;
+        };
+        let [each, second] = [steps, second].map(|all| all.saturating_sub(refusals) / STEPS);
+        println!(
+            "{each} instructions per step, {second} by the second engine, over {STEPS} steps of the \
+             tape {what}"
+        );
     }
 }
 

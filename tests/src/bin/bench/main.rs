@@ -1,15 +1,16 @@
-//! Measures the library: time and stack beside the account where it is linked into the same process,
+//! Measures the library: time and stack beside the accounts where it is linked into the same process,
 //! and the instructions that it takes.
 
 #[cfg(not(bridged))]
 mod bank;
+#[cfg(not(bridged))]
+mod console;
 mod instructions;
 #[cfg(not(bridged))]
 mod measure;
 mod replay;
-
 #[cfg(not(bridged))]
-mod console;
+mod rounds;
 
 fn main() {
     // The one thing to be measured where it is named.
@@ -26,8 +27,8 @@ fn main() {
     #[cfg(not(bridged))]
     {
         measure::main();
-        bank::main();
         console::main();
+        bank::main();
     }
     replay::main();
 }

@@ -1,16 +1,15 @@
-//! How long one step takes, and how much stack: the library beside the account, on the same tape
-//! of events, in one run.
+//! How long one step takes, and how much stack: both engines beside the account and plain C, on the same
+//! tapes of events, in one run.
 //!
 //! The account is measured behind the same interface as the library (22 packed bytes in and out)
-//! and once more with the record kept unpacked, which is what a host in Rust would do. Rounds
-//! alternate, so that both see the same weather, and the best round of each counts.
+//! and once more with the record kept unpacked, which is what a host in Rust would do.
 
+use crate::rounds::{best, entry, head, line, Entry, ROUNDS as ENTRY_ROUNDS};
 use callcontrol_tests::account::{boundary, Call, RECORD_LEN};
 use callcontrol_tests::library;
-use callcontrol_tests::tape::{tape, Tape, EVENTS, OUT_LEN};
+use callcontrol_tests::tape::{tape, tape_with_slots, Tape, EVENTS, OUT_LEN};
 use callcontrol_tests::yardstick;
 use std::hint::black_box;
-use std::time::Instant;
 
 const ROUNDS: usize = 400;
 
@@ -38,7 +37,7 @@ fn struct_step(call: &mut Call, event: &[u8], out: &mut [u8]) -> u32 {
     boundary::word(call.step(event, out))
 }
 
-/// What a run over the tape gave, so that no one can leave out the work, and both can be seen to
+/// What a run over the tape gave, so that no one can leave out the work, and all can be seen to
 /// have done the same.
 #[derive(Clone, Copy, Debug, PartialEq, Eq)]
 struct Sum {
@@ -46,78 +45,23 @@ struct Sum {
     record: [u8; RECORD_LEN],
 }
 
-// Loops that differ only in the function called: called directly in both, as a host would.
-
-fn run_library(tape: &Tape) -> Sum {
+/// A loop for each side, in which its step is called directly, as a host would.
+fn run(tape: &Tape, step: impl Fn(&mut [u8], &[u8], &mut [u8]) -> u32) -> Sum {
     let mut record = Call::FRESH.pack();
     let mut out = [0u8; OUT_LEN];
     let mut words = 0u64;
     for event in tape.events() {
-        words = words.wrapping_mul(31).wrapping_add(u64::from(library::step(
-            &mut record,
-            event,
-            black_box(&mut out),
-        )));
-    }
-    Sum { words, record }
-}
-
-fn run_second(tape: &Tape) -> Sum {
-    let mut record = Call::FRESH.pack();
-    let mut out = [0u8; OUT_LEN];
-    let mut words = 0u64;
-    for event in tape.events() {
-        words = words.wrapping_mul(31).wrapping_add(u64::from(library::small::step(
-            &mut record,
-            event,
-            black_box(&mut out),
-        )));
+        let word = step(&mut record, event, black_box(&mut out));
+        words = words.wrapping_mul(31).wrapping_add(u64::from(word));
     }
     Sum { words, record }
 }
 
 fn run_account(tape: &Tape) -> Sum {
-    let mut record = Call::FRESH.pack();
-    let mut out = [0u8; OUT_LEN];
-    let mut words = 0u64;
-    for event in tape.events() {
-        let lent = black_box(&mut out);
-        let word = unsafe {
-            account_step(
-                record.as_mut_ptr(),
-                record.len(),
-                event.as_ptr(),
-                event.len(),
-                lent.as_mut_ptr(),
-                lent.len(),
-            )
-        };
-        words = words.wrapping_mul(31).wrapping_add(u64::from(word));
-    }
-    Sum { words, record }
-}
-
-/// A step under a C name, in the library's place.
-fn run_bare(tape: &Tape, step: PackedStep) -> Sum {
-    let mut record = Call::FRESH.pack();
-    let mut out = [0u8; OUT_LEN];
-    let mut words = 0u64;
-    for event in tape.events() {
-        let lent = black_box(&mut out);
+    run(tape, |record, event, out| unsafe {
         let (held, size) = (record.as_mut_ptr(), record.len());
-        let word =
-            unsafe { step(held, size, event.as_ptr(), event.len(), lent.as_mut_ptr(), lent.len()) };
-        words = words.wrapping_mul(31).wrapping_add(u64::from(word));
-    }
-    Sum { words, record }
-}
-
-fn run_quick_c(tape: &Tape) -> Sum {
-    run_bare(tape, yardstick::quick::bare_step)
-}
-
-fn run_small_c(tape: &Tape) -> Sum {
-    run_bare(tape, yardstick::small::bare_step)
+        account_step(held, size, event.as_ptr(), event.len(), out.as_mut_ptr(), out.len())
+    })
 }
 
 fn run_account_struct(tape: &Tape) -> Sum {
@@ -132,60 +76,91 @@ fn run_account_struct(tape: &Tape) -> Sum {
 }
 
 pub fn main() {
-    let tape = tape();
+    let tapes = [("without slots", tape()), ("with slots", tape_with_slots())];
+    for (what, tape) in &tapes {
+        steps(what, tape);
+    }
+    fresh();
+    readers(&tapes[0].1);
+
+    println!("stack of one step in bytes, the most over each tape (goal: under 1024):");
+    println!("  {:<34}{:>14}{:>14}", "", tapes[0].0, tapes[1].0);
+    let steps: [(&str, PackedStep); 5] = [
+        ("first engine", library::callcontrol_step),
+        ("second engine", library::small::small_callcontrol_step),
+        ("account, packed record", account_step),
+        ("plain C, -O3", yardstick::quick::bare_step),
+        ("plain C, -Os", yardstick::small::bare_step),
+    ];
+    for (name, step) in steps {
+        print!("  {name:<34}");
+        for (_, tape) in &tapes {
+            match stack::deepest(tape, step) {
+                Some(bytes) => print!("{bytes:>14}"),
+                None => print!("{:>14}", "not measured"),
+            }
+        }
+        println!();
+    }
+}
+
+/// Both engines beside each other side: nanoseconds, and the ratio of each engine to it.
+fn engines<const N: usize>(names: [&str; N], best: [f64; N]) {
+    println!("  {:<34}{:>8}{:>15}{:>15}", "", "ns", "first engine/", "second engine/");
+    for (name, it) in names.into_iter().zip(best) {
+        println!("  {name:<34}{it:>8.1}{:>15.2}{:>15.2}", best[0] / it, best[1] / it);
+    }
+}
+
+fn steps(what: &str, tape: &Tape) {
     let mut answers = [0u32; 10];
     let mut record = Call::FRESH.pack();
     for event in tape.events() {
         answers[(boundary::step(&mut record, event, &mut [0; OUT_LEN]) >> 24) as usize] += 1;
     }
-    println!("tape: {EVENTS} events from fresh, by answer 0..8: {answers:?}");
-
-    type Run = fn(&Tape) -> Sum;
-    let runs: [(&str, Run); 6] = [
-        ("library", run_library),
-        ("account, packed record", run_account),
-        ("account, record kept as a struct", run_account_struct),
-        ("plain C, -O3", run_quick_c),
-        ("plain C, -Os", run_small_c),
-        ("second engine", run_second),
+    println!("a step, tape {what}: {EVENTS} events from fresh, by answer 0 to 9: {answers:?}");
+    let times = best(
+        what,
+        ROUNDS,
+        EVENTS,
+        [
+            &|| run(black_box(tape), library::step),
+            &|| run(black_box(tape), library::small::step),
+            &|| run_account(black_box(tape)),
+            &|| run_account_struct(black_box(tape)),
+            &|| run(black_box(tape), yardstick::quick::step),
+            &|| run(black_box(tape), yardstick::small::step),
+        ],
+    );
+    println!(
+        "best of {ROUNDS} alternating rounds (goal: second engine at most 2 times the first):"
+    );
+    let names = [
+        "first engine",
+        "second engine",
+        "account, packed record",
+        "account, record kept as a struct",
+        "plain C, -O3",
+        "plain C, -Os",
     ];
-    let mut best = [f64::INFINITY; 6];
-    let expected = run_account(&tape);
-    for _ in 0..ROUNDS {
-        for (place, (name, run)) in runs.iter().enumerate() {
-            let start = Instant::now();
-            let sum = run(black_box(&tape));
-            let elapsed = start.elapsed().as_nanos() as f64 / EVENTS as f64;
-            assert_eq!(sum, expected, "{name} went another way");
-            best[place] = best[place].min(elapsed);
-        }
-    }
-    println!("best of {ROUNDS} alternating rounds:");
-    for ((name, _), best) in runs.iter().zip(best) {
-        println!("  {name:<34}{best:>8.1} ns per step");
-    }
-    println!("  {:<34}{:>8.2}", "ratio library / account, packed", best[0] / best[1]);
-    println!("  {:<34}{:>8.2}", "ratio library / account, struct", best[0] / best[2]);
-    println!("  {:<34}{:>8.2}", "ratio library / plain C, -O3", best[0] / best[3]);
-    println!("  {:<34}{:>8.2}", "ratio library / plain C, -Os", best[0] / best[4]);
-    println!("  {:<34}{:>8.2}", "ratio second engine / library", best[5] / best[0]);
-    println!("  {:<34}{:>8.2}", "ratio second engine / plain C, -Os", best[5] / best[4]);
-    readers(&tape);
+    engines(names, times);
+}
 
-    println!("stack of one step, the most over the tape:");
-    let steps: [(&str, PackedStep); 5] = [
-        ("library", library::callcontrol_step),
-        ("account, packed record", account_step),
-        ("plain C, -O3", yardstick::quick::bare_step),
-        ("plain C, -Os", yardstick::small::bare_step),
-        ("second engine", library::small::small_callcontrol_step),
-    ];
-    for (name, step) in steps {
-        match stack::deepest(&tape, step) {
-            Some(bytes) => println!("  {name:<34}{bytes:>8} bytes"),
-            None => println!("  {name:<34}not measured on this machine"),
-        }
-    }
+fn fresh() {
+    let (taken, times) = entry(
+        "fresh",
+        &[(); EVENTS],
+        [
+            |_, lent| library::fresh(&mut lent[..RECORD_LEN]),
+            |_, lent| library::small::fresh(&mut lent[..RECORD_LEN]),
+            |_, lent| boundary::fresh(&mut lent[..RECORD_LEN]),
+            |_, lent| yardstick::quick::fresh(&mut lent[..RECORD_LEN]),
+            |_, lent| yardstick::small::fresh(&mut lent[..RECORD_LEN]),
+        ],
+    );
+    assert_eq!(taken, EVENTS, "each call makes a record");
+    println!("fresh: {EVENTS} calls, {taken} taken, best of {ENTRY_ROUNDS} alternating rounds:");
+    engines(["first engine", "second engine", "account", "plain C, -O3", "plain C, -Os"], times);
 }
 
 /// The other entries for one call, over the events of the tape and over the messages that it writes.
@@ -204,18 +179,7 @@ fn readers(tape: &Tape) {
     }
     let events: Vec<Vec<u8>> = tape.events().map(<[u8]>::to_vec).collect();
 
-    type Entry = fn(&[u8], &mut [u8]) -> u32;
-    let entries: [(&str, &[Vec<u8>], [Entry; 4]); 5] = [
-        (
-            "fresh",
-            &events,
-            [
-                |_, out| library::fresh(&mut out[..21]),
-                |_, out| boundary::fresh(&mut out[..21]),
-                |_, out| yardstick::quick::fresh(&mut out[..21]),
-                |_, out| yardstick::small::fresh(&mut out[..21]),
-            ],
-        ),
+    let entries: [(&str, &[Vec<u8>], [Entry<Vec<u8>>; 4]); 4] = [
         (
             "check_event",
             &events,
@@ -240,42 +204,27 @@ fn readers(tape: &Tape) {
             "copy_event",
             &events,
             [
-                library::copy_event,
-                boundary::copy_event,
-                yardstick::quick::copy_event,
-                yardstick::small::copy_event,
+                |bytes, lent| library::copy_event(bytes, lent),
+                |bytes, lent| boundary::copy_event(bytes, lent),
+                |bytes, lent| yardstick::quick::copy_event(bytes, lent),
+                |bytes, lent| yardstick::small::copy_event(bytes, lent),
             ],
         ),
         (
             "copy_message",
             &messages,
             [
-                library::copy_message,
-                boundary::copy_message,
-                yardstick::quick::copy_message,
-                yardstick::small::copy_message,
+                |bytes, lent| library::copy_message(bytes, lent),
+                |bytes, lent| boundary::copy_message(bytes, lent),
+                |bytes, lent| yardstick::quick::copy_message(bytes, lent),
+                |bytes, lent| yardstick::small::copy_message(bytes, lent),
             ],
         ),
     ];
-    println!("the other entries, ns per call and ratios to the account and to plain C:");
-    println!("  {:<34}{:>8}{:>10}{:>8}{:>8}", "", "library", "account", "-O3", "-Os");
-    for (name, inputs, by) in entries {
-        let mut best = [f64::INFINITY; 4];
-        let mut out = [0; OUT_LEN];
-        for _ in 0..ROUNDS / 8 {
-            let mut sums = [0u64; 4];
-            for ((best, sum), entry) in best.iter_mut().zip(&mut sums).zip(by) {
-                let start = Instant::now();
-                for bytes in inputs {
-                    *sum += u64::from(entry(bytes, black_box(&mut out)));
-                }
-                *best = best.min(start.elapsed().as_nanos() as f64 / inputs.len() as f64);
-            }
-            assert_eq!(sums, [sums[0]; 4], "{name}: all answer the same");
-        }
-        let [own, account, quick, small] = best;
-        let (account, quick, small) = (own / account, own / quick, own / small);
-        println!("  {name:<34}{own:>8.1}{account:>10.2}{quick:>8.2}{small:>8.2}");
+    head("the other entries for one call", &["account", "C -O3", "C -Os"]);
+    for (name, inputs, sides) in entries {
+        let (taken, times) = entry(name, inputs, sides);
+        line(name, inputs.len(), taken, times);
     }
 }
 

@@ -1,7 +1,7 @@
 //! How many records a second `replay` tells of, from a file of a million, and how much memory it takes.
 
 use callcontrol_tests::replay::{self, Options};
-use callcontrol_tests::tape::{console_tape, tape};
+use callcontrol_tests::tape::{console_tape, tape, whole};
 use std::fs::{self, File, OpenOptions};
 use std::io::{BufWriter, Write};
 use std::time::Instant;
@@ -13,7 +13,7 @@ pub fn main() {
     let path = std::env::temp_dir().join(format!("replay-bench-{}", std::process::id()));
     for console in [false, true] {
         let records: Vec<Vec<u8>> = match console {
-            false => tape().events().filter(|event| whole(event)).map(<[u8]>::to_vec).collect(),
+            false => tape().whole().map(<[u8]>::to_vec).collect(),
             true => console_tape()
                 .events()
                 .filter(|(_, event)| whole(event))
@@ -46,11 +46,6 @@ pub fn main() {
         );
     }
     let _ = fs::remove_file(path);
-}
-
-/// Whether a file goes on behind it.
-fn whole(event: &[u8]) -> bool {
-    event.len() >= 4 && usize::from(u16::from_le_bytes([event[0], event[1]])) == event.len()
 }
 
 /// The most memory that this process had so far.
