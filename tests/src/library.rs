@@ -15,9 +15,9 @@ pub mod console;
 #[cfg(not(bridged))]
 mod direct;
 #[cfg(not(bridged))]
-mod direct_mode;
+pub mod direct_mode;
 #[cfg(not(bridged))]
-mod pieces;
+pub mod pieces;
 #[cfg(not(bridged))]
 pub mod small;
 

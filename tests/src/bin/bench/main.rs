@@ -4,10 +4,16 @@
 #[cfg(not(bridged))]
 mod bank;
 #[cfg(not(bridged))]
+mod channel;
+#[cfg(not(bridged))]
 mod console;
+#[cfg(not(bridged))]
+mod direct;
 mod instructions;
 #[cfg(not(bridged))]
 mod measure;
+#[cfg(not(bridged))]
+mod pieces;
 mod replay;
 #[cfg(not(bridged))]
 mod rounds;
@@ -28,7 +34,10 @@ fn main() {
     {
         measure::main();
         console::main();
+        pieces::main();
         bank::main();
+        channel::main();
+        direct::main();
     }
     replay::main();
 }
