@@ -1,5 +1,5 @@
 //! Measures the library: time and stack beside the accounts where it is linked into the same process,
-//! and the instructions that it takes.
+//! and the instructions that it takes; over a bridge, instructions and stack.
 
 #[cfg(not(bridged))]
 mod bank;
@@ -17,6 +17,8 @@ mod pieces;
 mod replay;
 #[cfg(not(bridged))]
 mod rounds;
+#[cfg(bridged)]
+mod stack;
 
 fn main() {
     // The one thing to be measured where it is named.
@@ -27,9 +29,11 @@ fn main() {
     #[cfg(bridged)]
     println!(
         "The library is called over a bridge here; tests/at_hand.sh builds one for this machine, of \
-         which time and stack can be measured."
+         which time can be measured, and stack beside the accounts'."
     );
     instructions::main();
+    #[cfg(bridged)]
+    stack::main();
     #[cfg(not(bridged))]
     {
         measure::main();
