@@ -1,8 +1,12 @@
 // Reads event records from standard input and prints a line for what the step answers to each.
 ghost use mathlib.Core.Path.{_≡_};
 ghost use Prim.Native.Nat.{_+_, _<_, _≤_};
-ghost use mathlib.Core.Bool.{cond};
+ghost use mathlib.Core.Bool.{true, cond, _||_};
+ghost use lib.Dec.{ltb};
+ghost use lib.IntN.{pos};
 ghost use lib.ListN.{length, take};
+ghost use lib.Signed.{ltZ};
+ghost use Rattle.io.specs.Counts.{clamped};
 ghost use Rattle.calltrace.specs.Line.{lineMost};
 ghost use Rattle.calltrace.specs.Trace.{DueIf, InHandIf};
 use crate::block::Pause;
@@ -48,6 +52,31 @@ struct Came {
     failed: bool,
 }
 
+// What writing the last lines came to: how many bytes of them were due, and how many of these the C library took.
+struct LastLines {
+    due: usize,
+    done: usize,
+}
+
+// How many bytes were handed on of the complaint about the input, and of the one about the output.
+struct Complaints {
+    input: usize,
+    output: usize,
+}
+
+// What the answer of a read comes to: a negative one is a read that failed, by which no byte came; any other says how many came.
+fn came_by(got: isize, room: &[u8]) -> Came
+    ensures { λ r. ⌜ r .count ≡ clamped got (length (now (room .entry))) ⌝ }
+    ensures { λ r. ⌜ r .count ≤ length (now (room .entry)) ⌝ }
+    ensures { λ r. ⌜ r .failed ≡ ltZ got (pos 0) ⌝ }
+{
+    let count = io::count(got, room);
+    Came {
+        count,
+        failed: got < 0,
+    }
+}
+
 // Reads once behind the bytes that are held: how many came, 0 at the end of the input, which an error ends too. The room
 // that is asked for tells the end of the input from a block that is full.
 fn read_behind(bytes: &mut [u8], held: usize) -> Came
@@ -57,11 +86,7 @@ fn read_behind(bytes: &mut [u8], held: usize) -> Came
 {
     let room = &mut bytes[held..];
     let got = libc::read(STDIN_FILENO, room);
-    let count = io::count(got, room);
-    Came {
-        count,
-        failed: got < 0,
-    }
+    came_by(got, room)
 }
 
 // Writes once, and answers how many bytes the C library took. Every line goes out here. Whether the trace is complete and the counts are
@@ -102,10 +127,20 @@ fn due_if(when: bool, size: usize) -> usize
     0
 }
 
-// Writes a complaint where something failed.
-fn complain_if(failed: bool, text: &[u8]) {
+// Hands a complaint on, and answers how many bytes it has. Every complaint goes out here.
+fn hand_on(text: &[u8]) -> usize
+    ensures { λ r. ⌜ r ≡ length (now (text .entry)) ⌝ }
+{
+    io::write_all(STDERR_FILENO, text);
+    text.len()
+}
+
+// Complains where something failed, and answers how many bytes it handed on: all of the text, or none.
+fn complain_if(failed: bool, text: &[u8]) -> usize
+    ensures { λ r. ⌜ r ≡ cond failed (length (now (text .entry))) 0 ⌝ }
+{
     let due = due_if(failed, text.len());
-    io::write_all(STDERR_FILENO, &text[..due]);
+    hand_on(&text[..due])
 }
 
 // Writes every line but those in hand at the end. A proved loop has to end, and nothing says that the input does. So the loop counts its
@@ -115,6 +150,7 @@ fn trace(bytes: &mut [u8], lines: &mut [u8]) -> InHand
     requires { ⌜ (lineMost ≤ length (now lines)) × (length (now lines) ≤ 65536) ⌝ }
     ensures { λ r. ⌜ r .laid ≤ length (now (lines .entry)) ⌝ }
     ensures { λ r. ⌜ InHandIf (r .complete) (r .unwritten) (r .read) (r .written) (take (r .laid) (now (lines .exit))) ⌝ }
+    ensures { λ r. ⌜ (r .unread ≡ true → r .complete ≡ true) ⌝ }
 {
     let mut laid = put_header(lines);
     let mut call = Call::fresh();
@@ -188,17 +224,35 @@ fn trace(bytes: &mut [u8], lines: &mut [u8]) -> InHand
     }
 }
 
-// The last lines are written where they are complete, and a complaint where a read or a write has failed: what is to be written is decided by
-// `due_if` alone.
+// Writes the lines in hand exactly where they are complete.
+fn write_last(lines: &[u8], last: InHand) -> LastLines
+    requires { ⌜ last .laid ≤ length (now lines) ⌝ }
+    requires { ⌜ InHandIf (last .complete) (last .unwritten) (last .read) (last .written) (take (last .laid) (now lines)) ⌝ }
+    ensures { λ r. ⌜ r .due ≡ cond (last .complete) (last .laid) 0 ⌝ }
+    ensures { λ r. ⌜ r .done ≤ r .due ⌝ }
+{
+    let due = due_if(last.complete, last.laid);
+    let done = write_lines(lines, due, last.complete, last.read, last.written);
+    LastLines { due, done }
+}
+
+// Complains of the input where a read has failed, and of the output where a write has. The texts have 41 and 45 bytes.
+fn complain(last: InHand, end: LastLines) -> Complaints
+    ensures { λ r. ⌜ r .input ≡ cond (last .unread) 41 0 ⌝ }
+    ensures { λ r. ⌜ r .output ≡ cond (last .unwritten || ltb (end .done) (end .due)) 45 0 ⌝ }
+{
+    let input = complain_if(last.unread, b"calltrace: standard input cannot be read\n");
+    let output = complain_if(
+        last.unwritten | (end.done < end.due),
+        b"calltrace: standard output cannot be written\n",
+    );
+    Complaints { input, output }
+}
+
 fn main() {
     let mut bytes = input_block();
     let mut lines = io::large_buffer();
     let last = trace(&mut bytes, &mut lines);
-    let due = due_if(last.complete, last.laid);
-    let done = write_lines(&lines, due, last.complete, last.read, last.written);
-    complain_if(last.unread, b"calltrace: standard input cannot be read\n");
-    complain_if(
-        last.unwritten | (done < due),
-        b"calltrace: standard output cannot be written\n",
-    );
+    let end = write_last(&lines, last);
+    complain(last, end);
 }

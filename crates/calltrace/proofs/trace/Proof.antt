@@ -126,7 +126,7 @@ trace-spec =
     (λ c. let d = full-after (c .before .before .before) in omega (arith, lines-kept d, same-lines d))
     (λ c. let d = full-after (c .before .before .before) in (
       omega (arith, laid-in d, lines-kept d, same-lines d),
-      (omega (arith, length-take-le (d .drain .result .laid) (lines d) (laid-in d), laid-some (c .before .before .before)), in-hand-due (underway d)),
+      ((omega (arith, length-take-le (d .drain .result .laid) (lines d) (laid-in d), laid-some (c .before .before .before)), in-hand-due (underway d)), λ e. e),
     ))
     (λ c. let d = full-after (c .before .before .before) in omega (arith, laid-in d, lines-most d, l d .loop .inv .7))
     (λ c. omega arith)
@@ -155,7 +155,7 @@ trace-spec =
     let p = c .before .before .put-last in
     let pause = pause-is d (c .before .before .before .before .enum-told2 .given .1) in (
       omega (arith, p .ensures .1, lines-kept d, same-lines d, pause .1),
-      ends (underway d) (short (pause .0)) (p .ensures .0) (omega (arith, p .ensures .1, lines-kept d, pause .1)),
+      (ends (underway d) (short (pause .0)) (p .ensures .0) (omega (arith, p .ensures .1, lines-kept d, pause .1)), λ e. refl),
     ))
     (λ c. search needs)
     (λ c κs. let d = cut-after (c .before) in (omega (arith, within d), l d .loop .inv .3))
@@ -185,7 +185,7 @@ trace-spec =
     let none-came : c .before .before .before .before .before .before .before .before .before .read-behind .result .count ≡ 0 = c .before .before .before .before .if2 .taken in
     let left : length (rest d) ≡ k .keep-rest .result = omega (arith, rest-long d, k .keep-rest .ensures .0) in (
       omega (arith, p .ensures .1, lines-kept d, same-lines d, pause .2),
-      rw (none-came, add-zero) (ends (underway d) (rw left at (end-traced (rest d) (d .drain .result .call) (pause .0))) (p .ensures .0) (omega (arith, p .ensures .1, lines-kept d, pause .2))),
+      (rw (none-came, add-zero) (ends (underway d) (rw left at (end-traced (rest d) (d .drain .result .call) (pause .0))) (p .ensures .0) (omega (arith, p .ensures .1, lines-kept d, pause .2))), λ e. refl),
     ))
     (λ c.
     let r = c .before .before .before .before .before .before .read-behind in
@@ -213,5 +213,5 @@ trace-spec =
     (λ c. omega (arith, c .before .loop .inv .1, c .before .before .before .before .before .put-header .kept .0))
     (λ c. (
       omega (arith, c .before .loop .inv .1, c .before .loop .inv .4, c .before .before .before .before .before .put-header .kept .0),
-      (omega (arith, c .before .loop .inv .8), in-hand-due (c .before .loop .inv .5)),
+      ((omega (arith, c .before .loop .inv .8), in-hand-due (c .before .loop .inv .5)), λ e. e),
     )))
