@@ -1,5 +1,5 @@
 -- Each answer is the paper's by the tests on its way; the length is the number of its two bytes.
-use Prim.Native.Nat.{ℕ, _+_, _*_, _-_, _<_}
+use Prim.Native.Nat.{ℕ, _+_, _*_, _-_, _<_, _≤_}
 use mathlib.Core.Path.{_≡_, refl}
 use mathlib.Core.List.{List}
 use native.Mathlib.Nat.{add-zero}
@@ -49,17 +49,25 @@ returns-2 : tie.Need-returns-2
 unfolding aheadIn
 returns-2 c = (rw (length-drop, le-ltb _ _ (c .before .before .before .if1 .left), word, lt-ltb _ _ (c .if2 .taken)), tt)
 
+-- the length that the two bytes at a position say
+abbrev said : List ℕ → ℕ → ℕ
+said s at = getD s at 0 + 256 * getD s (at + 1) 0
+
 returns-3 : tie.Need-returns-3
 unfolding aheadIn
 returns-3 c =
     let k = c .before .before in
-    (rw (length-drop, le-ltb _ _ (k .before .before .if1 .left), word, le-ltb _ _ (c .before .if2 .left), lt-ltb _ _ (c .if3 .taken)), omega (arith, k .before .shared-slice-known .given (k .before .before .before .args .at), k .shared-slice-known2 .given (k .before .before .before .args .at + 1)))
+    let a = k .before .before .before .args in
+    let fewer : length (a .s .now) - a .at < said (a .s .now) (a .at) = omega (arith, c .if3 .taken) in
+    (rw (length-drop, le-ltb _ _ (k .before .before .if1 .left), word, le-ltb _ _ (c .before .if2 .left), lt-ltb _ _ fewer), omega (arith, k .before .shared-slice-known .given (a .at), k .shared-slice-known2 .given (a .at + 1)))
 
 returns-4 : tie.Need-returns-4
 unfolding aheadIn
 returns-4 c =
     let k = c .before .before in
-    (rw (length-drop, le-ltb _ _ (k .before .before .if1 .left), word, le-ltb _ _ (c .before .if2 .left), le-ltb _ _ (c .if3 .left)), (omega arith, omega arith))
+    let a = k .before .before .before .args in
+    let all : said (a .s .now) (a .at) ≤ length (a .s .now) - a .at = omega (arith, c .if3 .left) in
+    (rw (length-drop, le-ltb _ _ (k .before .before .if1 .left), word, le-ltb _ _ (c .before .if2 .left), le-ltb _ _ all), (omega arith, omega arith))
 
 pub ahead-at-spec : {M : Type 1} → statement M
 ahead-at-spec =
