@@ -54,7 +54,7 @@ step-keeps-sound = Sound.step-keeps-sound
 pub run-sound : claims.Sound
 run-sound ts = Sound.always ts .meets
 
--- a number found among 2 to 8, or none, is not 1
+-- the first that applies of 2 3 9 4 5 6 8 7, or none, is not 1
 not-one : (b₂ b₃ b₉ b₄ b₅ b₆ b₈ b₇ : Bool) → _≡_ {A = ℕ} (cond b₂ 2 (cond b₃ 3 (cond b₉ 9 (cond b₄ 4 (cond b₅ 5 (cond b₆ 6 (cond b₈ 8 (cond b₇ 7 0)))))))) 1 → ⊥
 not-one true b₃ b₉ b₄ b₅ b₆ b₈ b₇ e = omega arith
 not-one false true b₉ b₄ b₅ b₆ b₈ b₇ e = omega arith

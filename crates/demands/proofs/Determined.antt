@@ -6,7 +6,8 @@ use mathlib.Core.List.{List}
 use denote.Ref.{now}
 use Rattle.records.specs.declared.bodies.Written.{Written}
 use Rattle.records.proofs.Determined as records
-use Rattle.callcontrol.specs.Draft.{asDraft}
+use Rattle.callcontrol.specs.declared.draft.Drafted.{Drafted}
+use Rattle.callcontrol.specs.Draft.{Draft}
 use Rattle.callcontrol.proofs.Determined as callcontrol
 use Rattle.records.proofs.events.read_event.Reads as read-event-promise
 use Rattle.records.proofs.messages.read_message.Reads as read-message-promise
@@ -167,6 +168,10 @@ timing-by κs a r₁ r₂ e₁ e₂ p q = p ∙ sym q
 pub next-by : (κs : _) (a : _) (r₁ r₂ : _) (e₁ e₂ : _) → next-by-promise.Learnt κs a r₁ e₁ → next-by-promise.Learnt κs a r₂ e₂ → r₁ ≡ r₂
 next-by κs a r₁ r₂ e₁ e₂ p q = p ∙ sym q
 
--- what a draft says; nothing else of it is read
-pub settle : (κs : _) (a : _) (r₁ r₂ : _) (e₁ e₂ : _) → settle-promise.Learnt κs a r₁ e₁ → settle-promise.Learnt κs a r₂ e₂ → asDraft r₁ ≡ asDraft r₂
-settle κs a r₁ r₂ e₁ e₂ p q = p ∙ sym q
+-- a draft of the code has nothing that the draft which it stands for does not say
+abbrev drafted : Draft → Drafted
+drafted d =
+    record { call = d .call; stops = d .stops; starts = d .starts; cancel = d .cancel; pdu = d .pdu; configure = d .configure; user = d .user }
+
+pub settle : (κs : _) (a : _) (r₁ r₂ : _) (e₁ e₂ : _) → settle-promise.Learnt κs a r₁ e₁ → settle-promise.Learnt κs a r₂ e₂ → r₁ ≡ r₂
+settle κs a r₁ r₂ e₁ e₂ p q = ap drafted (p ∙ sym q)

@@ -1,5 +1,5 @@
 -- No row starts T310 with code 0: the verb that starts it stops it there, and no row changes the code after it.
-use Prim.Native.Nat.{ℕ}
+use Prim.Native.Nat.{ℕ, zero, suc}
 use mathlib.Core.Path.{_≡_, refl}
 use mathlib.Core.Bool.{Bool, true, false, cond, not, _&&_, _||_}
 use mathlib.Core.List.{List, [], _∷_}
@@ -113,7 +113,8 @@ limited (Row.releases l) = record { pdu = refl; user = tt; start = refl }
 limited (Row.disconnects l i) = record { pdu = refl; user = refl; start = refl }
 limited (Row.ends l i) = record { pdu = tt; user = refl; start = refl }
 limited (Row.expires l n k t z) = record { pdu = refl; user = refl; start = refl }
-limited (Row.calls a d q s) = record { pdu = refl; user = tt; start = refl }
+limited (Row.calls a d q zero) = record { pdu = refl; user = tt; start = refl }
+limited (Row.calls a d q (suc s)) = record { pdu = refl; user = tt; start = refl }
 limited (Row.is-called i a d) = record { pdu = tt; user = refl; start = refl }
 limited (Row.takes-back z) = record { pdu = tt; user = refl; start = refl }
 limited (Row.releases-sent z) = record { pdu = refl; user = tt; start = refl }

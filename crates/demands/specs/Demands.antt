@@ -5,15 +5,15 @@ use mathlib.Core.Bool.{Bool, true, false, cond, not, _&&_, _||_}
 use mathlib.Core.List.{List, [], _∷_, _++_}
 use mathlib.Core.Option.{Option, none, some}
 use lib.Dec.{leb, eqb}
-use lib.ListN.{length, take, drop}
+use lib.ListN.{length, take, drop, getD}
 use lib.Seq.{sets}
 use Rattle.records.specs.declared.events.Event.{Event}
 use Rattle.records.specs.declared.events.Event.the-variants.{SetupRequest, SetupResponse, ReleaseRequest, TxRequest, DCallProceeding, DAlert, DConnect, DConnectAcknowledge, DSetup, DInfo, DTxGranted, DTxCeased, DTxInterrupt, DTxWait, DTxContinue, DCallRestore, DDisconnect, DRelease, ReportSent, ReportFailed, Break, Resume, Expiry}
 use Rattle.records.specs.declared.messages.Message.{Message}
-use Rattle.records.specs.declared.messages.Message.the-variants.{USetup, UConnect, UDisconnect, URelease, UInfo, UTxDemand, UTxCeased, UCallRestore, Stop, Start, Configure, Cancel, Place, ChannelAnswer, SetupIndication, SetupConfirm, Proceed, Alert, Complete, ReleaseIndication, ReleaseConfirm, TxIndication, ModifyIndication}
 use Rattle.records.specs.Bytes.{number}
-use Rattle.records.specs.Bodies.{size, numbersAt, allFit}
-use Rattle.records.specs.Tables.{Read, taken, refused, listed, known, find, read, fine}
+use Rattle.records.specs.Letters.{Letter}
+use Rattle.records.specs.Bodies.{Values, size, numbersAt, allFit}
+use Rattle.records.specs.Tables.{Read, taken, refused, listed, known, find, read, flat, fine}
 use Rattle.records.specs.Laws.{missing, numbers}
 use Rattle.records.specs.Events.{EventKind, eventRow, events}
 use Rattle.records.specs.Messages.{messages}
@@ -434,31 +434,18 @@ NoneRuns = (ts : List Turn) → runningBy (logIn freshCall ts) ≡ runningBy [] 
 
 -- T310 code 0
 
--- START of T310 has a code above 0
+-- the numbers of a body, in the letters' order
+abbrev pub numbersIn : (ls : List Letter) → Values ls → List ℕ
+numbersIn [] vs = []
+numbersIn (l ∷ ls) vs = vs .0 ∷ numbersIn ls (vs .1)
+
+-- T310, and code 0
+abbrev pub noLimit : List ℕ → Bool
+noLimit ns = eqb (getD ns 0 0) 310 && eqb (getD ns 1 0) 0
+
+-- a message that is no START (0602) of T310 with code 0
 unfoldable pub limits : Message → Bool
-limits (USetup a d q s) = true
-limits (UConnect i) = true
-limits (UDisconnect i c) = true
-limits (URelease i) = true
-limits (UInfo i d) = true
-limits (UTxDemand i) = true
-limits (UTxCeased i) = true
-limits (UCallRestore i a q) = true
-limits (Stop n) = true
-limits (Start n o) = not (eqb n 310 && eqb o 0)
-limits (Configure plane) = true
-limits Cancel = true
-limits (Place at) = true
-limits (ChannelAnswer n v) = true
-limits (SetupIndication i a d) = true
-limits (SetupConfirm i g) = true
-limits Proceed = true
-limits Alert = true
-limits (Complete g) = true
-limits (ReleaseIndication c) = true
-limits ReleaseConfirm = true
-limits (TxIndication x) = true
-limits (ModifyIndication d s) = true
+limits m = not (eqb (flat messages m .kind) 0x0602 && noLimit (numbersIn (flat messages m .letters) (flat messages m .values)))
 
 -- no turn, from any record, starts T310 with code 0
 abbrev pub StartsWithLimit : Type 0

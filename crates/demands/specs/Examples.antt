@@ -70,15 +70,15 @@ abbrev pub uCallRestore : ℕ → Bytes
 uCallRestore q = 0x0b ∷ 0x00 ∷ 0x08 ∷ 0x05 ∷ 0x15 ∷ 0x00 ∷ 0x07 ∷ 0x00 ∷ 0x00 ∷ 0x00 ∷ q ∷ []
 
 -- where an example begins: the events that lead there, and what the paper says of the record then
-pub record Place : Type 0 where
+pub record Beginning : Type 0 where
   pub by : List Bytes
   pub is : Call → Bool
 
-abbrev pub fresh : Place
+abbrev pub fresh : Beginning
 fresh = record { by = []; is = isIdle }
 
 -- MO-CALL-SETUP with T303 alone running
-abbrev pub moCallSetup : Place
+abbrev pub moCallSetup : Beginning
 moCallSetup =
     record {
       by = setupRequest ∷ [];
@@ -88,11 +88,11 @@ moCallSetup =
     }
 
 -- MT-CALL-SETUP before the response, which starts T301
-abbrev pub mtCallSetup : Place
+abbrev pub mtCallSetup : Beginning
 mtCallSetup = record { by = dSetup21 ∷ []; is = λ c. eqb (stateNumber (c .state)) 2 && not (runs c T301) }
 
 -- simplex, plane 1, i 21, asked 0
-abbrev pub speaking : Place
+abbrev pub speaking : Beginning
 speaking =
     record {
       by = setupRequest ∷ dConnect ∷ [];
@@ -111,14 +111,14 @@ pub data Gives : Type 0 where
 
 -- a line of the table: where it begins, the events that come then, the bytes lent for the messages of the last, and what that gives
 pub record Example : Type 0 where
-  pub at : Place
+  pub from : Beginning
   pub come : List Bytes
   pub last : Bytes
   pub lent : ℕ
   pub gives : Gives
 
-abbrev pub example : Place → List Bytes → Bytes → ℕ → Gives → Example
-example at come last lent gives = record { at = at; come = come; last = last; lent = lent; gives = gives }
+abbrev pub example : Beginning → List Bytes → Bytes → ℕ → Gives → Example
+example from come last lent gives = record { from = from; come = come; last = last; lent = lent; gives = gives }
 
 abbrev pub examples : List Example
 examples =
@@ -159,8 +159,8 @@ along (e ∷ es) then c = eqb (outcome c (turn e 64) .answer) 0 && along es then
 
 abbrev pub right : Example → Bool
 right x =
-    along (x .at .by)
-    (λ c. x .at .is c && along (x .come) (λ d. met (x .gives) (outcome d (turn (x .last) (x .lent)))) c)
+    along (x .from .by)
+    (λ c. x .from .is c && along (x .come) (λ d. met (x .gives) (outcome d (turn (x .last) (x .lent)))) c)
     freshCall
 
 -- every row of the table is right

@@ -296,22 +296,22 @@ slots =
     ∷ holding outgoing 3 1
     ∷ []
 
--- bytes to which two refusals apply at once; the lower is given
+-- bytes to which two refusals apply at once; the first in the order of the answers is given
 pub record Twice : Type 0 where
   pub bytes : List ℕ
-  pub lower : ℕ
-  pub upper : ℕ
+  pub first : ℕ
+  pub later : ℕ
 
 abbrev pub twice : List ℕ → ℕ → ℕ → Twice
-twice s n m = record { bytes = s; lower = n; upper = m }
+twice s n m = record { bytes = s; first = n; later = m }
 
-unfoldable pub lowerGiven : List Twice → Bool
-lowerGiven [] = true
-lowerGiven (x ∷ xs) =
-    applies (x .lower) freshCall (x .bytes) []
-    && applies (x .upper) freshCall (x .bytes) []
-    && eqb (outcome freshCall (record { event = x .bytes; buffer = [] }) .answer) (x .lower)
-    && lowerGiven xs
+unfoldable pub firstGiven : List Twice → Bool
+firstGiven [] = true
+firstGiven (x ∷ xs) =
+    applies (x .first) freshCall (x .bytes) []
+    && applies (x .later) freshCall (x .bytes) []
+    && eqb (outcome freshCall (record { event = x .bytes; buffer = [] }) .answer) (x .first)
+    && firstGiven xs
 
 -- a wrong length with an unknown kind, and with identifier 0 in D-ALERT; and another call's D-ALERT, which has no row in IDLE
 abbrev pub twices : List Twice
@@ -377,7 +377,7 @@ pub record Witness : Type 0 where
   pub ends : Each Writes endings
   pub tells : Each Writes tellings
   pub holds : Each Holds slots
-  pub lowest : lowerGiven twices ≡ true
+  pub first : firstGiven twices ≡ true
   pub timers : Each Shows clocks
   pub collides : Collides
   pub eight : EightBeforeSeven
