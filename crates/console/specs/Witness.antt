@@ -1,5 +1,5 @@
--- That the claims are not true for the wrong reason: a run with two places at work, event by event, eight calls cut and restored at once, and a call
--- that ends by its timers alone.
+-- That the claims are not true for the wrong reason: a run with two places at work, event by event, eight calls cut and restored at once, a call that
+-- ends by its timers alone, D-INFO over a place's own transmission, a call without a limit, and a sound table out of reach where one place writes 57.
 use Prim.Native.Nat.{ℕ, zero, suc}
 use mathlib.Core.Path.{_≡_}
 use mathlib.Core.Bool.{Bool, true, false, _&&_}
@@ -9,13 +9,15 @@ use lib.Dec.{eqb}
 use lib.ListN.{length, take, drop}
 use Rattle.records.specs.declared.events.Event.the-variants.{Break, DCallRestore}
 use Rattle.callcontrol.specs.declared.call.Call.{Call}
-use Rattle.callcontrol.specs.Call.{stateNumber, pathNumber, freshCall, isIdle, runs, T302}
-use Rattle.console.specs.Table.{callAt, freshTable}
+use Rattle.callcontrol.specs.Call.{stateNumber, pathNumber, freshCall, isIdle, runs, transmits, T302}
+use Rattle.console.specs.Table.{callAt, freshTable, tableSound}
 use Rattle.console.specs.Console.{ConsoleOutcome}
-use Rattle.demands.specs.Runs.{takenBy, takenIn, ends}
+use Rattle.demands.specs.Runs.{takenBy, takenIn, told, ends}
+use Rattle.demands.specs.Clocks.{logIn, runningBy, runsBy}
 use Rattle.demands.specs.History.{slotsByHistory}
-use Rattle.demands.specs.Demands.{quiet, OnlyDue}
+use Rattle.demands.specs.Demands.{quiet, widest, OnlyDue}
 use Rattle.console.specs.Runs.{ConsoleTurn, consoleOutcome, consoleRun, lentBehind, wentTo, wentIn}
+use Rattle.console.specs.Answers.{consoleApplies}
 
 abbrev zeros : ℕ → List ℕ
 zeros zero = []
@@ -158,3 +160,45 @@ expiries =
 pub record ThreeDueMet : Type 0 where
   pub due : OnlyDue (wentIn 0 freshTable (comesIn 0)) (wentIn 0 (consoleRun freshTable (comesIn 0)) expiries)
   pub three : length (wentIn 0 (consoleRun freshTable (comesIn 0)) expiries) ≡ 3
+
+-- ---- the premises of NoInfoOverSpeechAt, met at place 1 after the first run, where D-INFO gets 8; 8 comes before 7, which applies too where no byte is
+-- lent
+
+abbrev pub informs : ℕ → ConsoleTurn
+informs lent = record { place = 0; event = 9 ∷ 0 ∷ 6 ∷ 2 ∷ 40 ∷ 0 ∷ 1 ∷ 5 ∷ 1 ∷ []; buffer = zeros lent }
+
+pub record EightMet : Type 0 where
+  pub transmitting : transmits (told (wentIn 1 freshTable (some-turns 0 16))) ≡ true
+  pub went : wentTo 1 (tableAt 16) (informs 184) ≡ lentBehind 0 (informs 184) ∷ []
+  pub given : consoleOutcome (tableAt 16) (informs 184) .answer ≡ 8
+  pub eight : consoleApplies 8 (tableAt 16) (informs 0) ≡ true
+  pub seven : consoleApplies 7 (tableAt 16) (informs 0) ≡ true
+  pub before-seven : consoleOutcome (tableAt 16) (informs 0) .answer ≡ 8
+
+-- ---- the premises of NoneRunsAt and NoLimitNoExpiryAt, met at place 1 by a duplex call that is connected with T310 code 0: it transmits, and by its
+-- messages no timer runs, while T310 runs at place 0; an expiry of T310 gets 6 there
+
+abbrev pub unlimited : List ConsoleTurn
+unlimited =
+    comesIn 0
+    ++ (turn 0 (10 ∷ 0 ∷ 1 ∷ 1 ∷ 7 ∷ 0 ∷ 0 ∷ 0 ∷ 1 ∷ 1 ∷ [])
+    ∷ turn 0 (9 ∷ 0 ∷ 3 ∷ 2 ∷ 21 ∷ 0 ∷ 0 ∷ 1 ∷ 0 ∷ [])
+    ∷ [])
+
+pub record NoLimitMet : Type 0 where
+  pub stands-so : stands (callAt (consoleRun freshTable unlimited) 1) (stand 3 0 3) ≡ true
+  pub code : callAt (consoleRun freshTable unlimited) 1 .code ≡ 0
+  pub none-runs : runningBy (logIn freshCall (wentIn 1 freshTable unlimited)) ≡ runningBy []
+  pub other-runs : runsBy (logIn freshCall (wentIn 0 freshTable unlimited)) 310 ≡ true
+  pub no-expiry : consoleOutcome (consoleRun freshTable unlimited) (turn 1 (6 ∷ 0 ∷ 1 ∷ 4 ∷ 54 ∷ 1 ∷ [])) .answer ≡ 6
+
+-- ---- a sound table, out of reach of a run, where an event for one place writes more than the 37 of any run: at place 0 the step's widest record, from
+-- which D-DISCONNECT writes 52 bytes behind the record 0605
+
+abbrev pub widestTable : List Call
+widestTable = widest ∷ freshCall ∷ freshCall ∷ freshCall ∷ freshCall ∷ freshCall ∷ freshCall ∷ freshCall ∷ []
+
+abbrev pub Writes57 : Type 0
+Writes57 =
+    (tableSound widestTable ≡ true)
+    × (consoleOutcome widestTable (record { place = 0; event = 6 ∷ 0 ∷ 13 ∷ 2 ∷ 21 ∷ 0 ∷ []; buffer = zeros 57 }) .count ≡ 57)
