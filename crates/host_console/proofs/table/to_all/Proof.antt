@@ -85,7 +85,7 @@ pack-table-requires c κs =
     let h = p .before .before in
     let o = h .before .before in
     let z = o .before .before .before in
-    (table-length _ (z .pre .1), p .put-all .ensures .within)
+    (table-length _ (z .pre .1), omega (arith, p .put-all .ensures .within))
 
 cast-result : tie.Need-cast-result
 cast-result c =
