@@ -14,10 +14,11 @@
  * libhost_small.a, in place of libhost.a, for a set with little room: fresh and step alone, with the
  * same results in less code; libhost_direct.a, which needs no other, for direct mode.
  *
- * Every function but callcontrol_pieces_next returns answer * 2^24 + place * 2^16 + count of bytes
- * written. With answer 4 of a reader the place says what is wrong: the offset of the first bad field
- * from the first byte of the record, or 2 where the size of the body is wrong. With every other answer
- * it is 0.
+ * Every function but callcontrol_pieces_next returns answer * 2^24 + place * 2^16 + count. Counted are
+ * the bytes written to out, or to what a function makes fresh, and by callcontrol_bank_advance the
+ * timers due. With answer 4 of a reader the place says what is wrong: the offset of the first bad
+ * field from the first byte of the record, or 2 where the size of the body is wrong. With every other
+ * answer it is 0.
  *
  * What changed: a record has one byte more, the slots per frame (CALLCONTROL_AT_SLOTS), and a table
  * eight more. A host that keeps records of 21 bytes, or tables of 168, gets answer 1 to them, and
@@ -93,17 +94,17 @@ enum callcontrol_answer {
 
 /* Of callcontrol_pieces_next: 0 and 1 as above, and these, in the order 22, 21, 20. */
 enum callcontrol_pieces_answer {
-    CALLCONTROL_LENGTH_IMPOSSIBLE = 20, /* a length below 4 or above 64: the reader stops */
+    CALLCONTROL_IMPOSSIBLE_LENGTH = 20, /* a length below 4 or above 64: the reader stops */
     CALLCONTROL_READER_STOPPED = 21,    /* and stays so until callcontrol_pieces_fresh */
     CALLCONTROL_CARRY_TOO_SHORT = 22    /* the carry has under 64 bytes */
 };
 
 /* Of a bank of timers, after 1 for bytes that are no bank. */
 enum callcontrol_bank_answer {
-    CALLCONTROL_TIMER_UNKNOWN = 30,    /* no timer has this number */
-    CALLCONTROL_BAD_TIMER_LENGTH = 31, /* a length of 0 or over 2^30, or none in the table */
-    CALLCONTROL_READING_EARLIER = 32,  /* the reading is earlier than the last */
-    CALLCONTROL_LIST_SHORT = 33        /* more timers are due than the lent list holds */
+    CALLCONTROL_TIMER_UNKNOWN = 30,       /* no timer has this number */
+    CALLCONTROL_LENGTH_OUT_OF_RANGE = 31, /* a length of 0 or over 2^30, or none in the table */
+    CALLCONTROL_READING_EARLIER = 32,     /* the reading is earlier than the last */
+    CALLCONTROL_LIST_SHORT = 33           /* more timers are due than the lent list holds */
 };
 
 /* Of channel questions: 0, 1, 4 (place 0) and 7, and these; in the order 1, 4, 50, 51, 53, 52, 7. */

@@ -16,7 +16,7 @@
 #include <unistd.h>
 
 /* Of the archive that only the tests link. */
-uint32_t callcontrol_test_record_in(uint8_t place, uint8_t size, const uint8_t *carry, size_t carry_len,
+uint32_t callcontrol_test_record_in(uint8_t lies, uint8_t size, const uint8_t *carry, size_t carry_len,
                                     const uint8_t *piece, size_t piece_len, uint8_t *out,
                                     size_t out_len);
 /* The second engine's entries, which build.rs gives names of their own. */

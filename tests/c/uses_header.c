@@ -593,7 +593,7 @@ static void reads_pieces(void)
     result = callcontrol_pieces_next(reader, sizeof reader, carry, lent, line + 4, 6);
     MUST(callcontrol_where_of(result) == CALLCONTROL_IN_PIECE && callcontrol_used_of(result) == 4);
     result = callcontrol_pieces_next(reader, sizeof reader, carry, lent, line + 8, 2);
-    ANSWERS(CALLCONTROL_LENGTH_IMPOSSIBLE, result);
+    ANSWERS(CALLCONTROL_IMPOSSIBLE_LENGTH, result);
     result = callcontrol_pieces_next(reader, sizeof reader, carry, lent, line, 4);
     ANSWERS(CALLCONTROL_READER_STOPPED, result);
     result = callcontrol_pieces_next(reader, sizeof reader, carry, lent - 1, line, 4);
@@ -605,7 +605,7 @@ static void reads_pieces(void)
     MUST(callcontrol_size_of(result) == CALLCONTROL_CARRY_SIZE);
     put(line, 2, CALLCONTROL_CARRY_SIZE + 1);
     result = callcontrol_pieces_next(reader, sizeof reader, carry, lent, line, sizeof line);
-    ANSWERS(CALLCONTROL_LENGTH_IMPOSSIBLE, result);
+    ANSWERS(CALLCONTROL_IMPOSSIBLE_LENGTH, result);
 }
 
 /* ---- A bank of timers ---------------------------------------------------------------------- */
@@ -656,11 +656,11 @@ static void keeps_timers(void)
     MUST(callcontrol_bank_stop(bank, sizeof bank, CALLCONTROL_T310) == CALLCONTROL_TAKEN);
     result = callcontrol_bank_start(bank, sizeof bank, lengths, CALLCONTROL_LENGTHS - 1,
                                     CALLCONTROL_T310, CALLCONTROL_T310_CODE_MAX);
-    ANSWERS(CALLCONTROL_BAD_TIMER_LENGTH, result);
+    ANSWERS(CALLCONTROL_LENGTH_OUT_OF_RANGE, result);
     lengths[CALLCONTROL_LENGTHS - 1] = CALLCONTROL_LENGTH_MAX + 1;
     result = callcontrol_bank_start(bank, sizeof bank, lengths, CALLCONTROL_LENGTHS, CALLCONTROL_T310,
                                     CALLCONTROL_T310_CODE_MAX);
-    ANSWERS(CALLCONTROL_BAD_TIMER_LENGTH, result);
+    ANSWERS(CALLCONTROL_LENGTH_OUT_OF_RANGE, result);
     ANSWERS(CALLCONTROL_TIMER_UNKNOWN, callcontrol_bank_stop(bank, sizeof bank, 300));
 }
 

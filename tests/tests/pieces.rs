@@ -80,10 +80,10 @@ impl<'a> Line<'a> {
     }
 
     /// `record_in` gives back, as a part of the carry or of the piece, the record that the numbers say.
-    fn given_back(&mut self, place: u32, size: usize, piece: &[u8], record: &[u8]) {
+    fn given_back(&mut self, lies: u32, size: usize, piece: &[u8], record: &[u8]) {
         let filler = self.calls as u8 ^ 0x69;
         let request = Request::of(Function::RecordIn, &self.carry, piece, 64, filler)
-            .with(place | (size as u32) << 8);
+            .with(lies | (size as u32) << 8);
         let said = self.queue.check(&request, |_, _, out| {
             out[..size].copy_from_slice(record);
             size as u32
@@ -95,13 +95,13 @@ impl<'a> Line<'a> {
     fn piece(&mut self, mut piece: &[u8]) -> u32 {
         loop {
             let carried_before = self.reader[0];
-            let (answer, place, size, used) = self.next(piece);
+            let (answer, lies, size, used) = self.next(piece);
             if answer != 0 {
-                assert_eq!((place, size, used), (0, 0, 0), "a refusal hands nothing on");
+                assert_eq!((lies, size, used), (0, 0, 0), "a refusal hands nothing on");
                 self.seen.stopped = true;
                 return answer;
             }
-            let record = match place {
+            let record = match lies {
                 0 => {
                     assert_eq!(used, piece.len(), "what is no whole record is carried");
                     self.given_back(0, 0, piece, &[]);
@@ -115,10 +115,10 @@ impl<'a> Line<'a> {
                     assert_eq!(carried_before, 0, "in the piece only if it began there");
                     &piece[..size]
                 }
-                _ => panic!("a record is found at {place}"),
+                _ => panic!("{lies} says where a record is"),
             };
             let record = record.to_vec();
-            self.given_back(place, size, piece, &record);
+            self.given_back(lies, size, piece, &record);
             self.seen.records.push(record);
             piece = &piece[used..];
         }
@@ -525,23 +525,23 @@ fn a_carry_that_the_host_has_spoiled() {
                 .holding(&carry)
                 .at(places);
         let said = queue.check(&request, |reader, piece, carry| pieces::next(reader, carry, piece));
-        let [used, size, place, answer] = said.word.to_le_bytes();
+        let [used, size, lies, answer] = said.word.to_le_bytes();
         let after = Reader::unpack(said.record).expect("a reader is given back");
         if carry[1] == 0 && carried >= 2 && (4..=carried).contains(&carry[0]) {
             assert_eq!(answer, 20, "{carried} carried of a record of {}", carry[0]);
             within += 1;
         }
-        match (answer, place) {
+        match (answer, lies) {
             (0, 0) => assert_eq!(size, 0),
             (0, 1) => assert!((4..=64).contains(&size) && after == Reader::FRESH),
             (0, 2) => assert!((4..=piece.len().min(64)).contains(&(size as usize))),
             (20, 0) => {
                 assert_eq!((size, used, after), (0, 0, Reader { carried: 0, stopped: true }))
             }
-            _ => panic!("answer {answer}, record at {place}"),
+            _ => panic!("answer {answer}, and {lies} says where the record is"),
         }
         assert!(used as usize <= piece.len());
-        handed_on += u32::from(answer == 0 && place != 0);
+        handed_on += u32::from(answer == 0 && lies != 0);
     }
     queue.finish();
     assert!(handed_on > 10_000 && within > 10_000, "{handed_on} handed on, {within} impossible");

@@ -1,5 +1,5 @@
-// What a set links: call control on byte slices. A host keeps a call as 22 bytes and hands them in with each event. Every entry returns
-// answer * 2^24 + place * 2^16 + count of bytes written; 4 alone has a place, the reader's.
+// What a set links: call control on byte slices. A host keeps a call as 22 bytes and hands them in with each event. Every entry but
+// callcontrol_pieces_next returns answer * 2^24 + place * 2^16 + count; 4 alone has a place, the reader's.
 ghost use mathlib.Core.Path.{_≡_};
 ghost use mathlib.Core.List.{List};
 ghost use Prim.Native.Nat.{ℕ, _<_, _^_};

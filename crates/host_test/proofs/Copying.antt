@@ -10,7 +10,7 @@ use lib.ListN.{length, take, drop}
 use lib.Seq.{sets, sets-eq, take-length}
 use Rattle.pieces.specs.declared.reader.Where.{Where}
 use Rattle.pieces.specs.Next.{whereNumber, recordIn}
-use Rattle.host_test.specs.Record.{whereIs, copied, recordCopied}
+use Rattle.host_test.specs.Record.{ANSWER, whereIs, copied, recordCopied}
 
 length-taken : (n : ℕ) (l : List ℕ) → length (take n l) ≤ n
 length-taken zero l = omega arith
@@ -25,7 +25,7 @@ record-size : (lies size : ℕ) (carry piece : List ℕ) → length (recordIn li
 record-size lies size carry piece =
     either (eqb lies 1) size _ _ (length-taken size carry) (either (eqb lies 2) size _ [] (length-taken size piece) (omega arith))
 
-too-short : (r out : List ℕ) → length out < length r → (7 * 16777216, out) ≡ copied r out
+too-short : (r out : List ℕ) → length out < length r → (7 * ANSWER, out) ≡ copied r out
 too-short r out lt = rw (lt-ltb (length out) (length r) lt)
 
 fits : (r out : List ℕ) {after : List ℕ} → length r ≤ length out → after ≡ take (length r) r ++ drop (length r) out → (length r, after) ≡ copied r out
@@ -44,7 +44,7 @@ module _ (lies size : ℕ) (carry piece out : List ℕ) {p : Where} {r : List �
   pub few : length r ≤ size
   few = rw held (record-size (whereNumber p) size carry piece)
 
-  pub no-room : length out < length r → (7 * 16777216, out) ≡ recordCopied lies size carry piece out
+  pub no-room : length out < length r → (7 * ANSWER, out) ≡ recordCopied lies size carry piece out
   no-room lt = too-short r out lt ∙ whole
 
   pub copies : {after : List ℕ} → length r ≤ length out → after ≡ take (length r) r ++ drop (length r) out → (length r, after) ≡ recordCopied lies size carry piece out

@@ -14,9 +14,13 @@ whereIs (suc zero) = Where.Carry
 whereIs (suc (suc zero)) = Where.Piece
 whereIs (suc (suc (suc n))) = Where.Nowhere
 
+-- a result is answer * ANSWER + count, as host's are
+abbrev pub ANSWER : ℕ
+ANSWER = 16777216
+
 -- 7 where the buffer is too short, and nothing is written
 abbrev pub copied : List ℕ → List ℕ → ℕ × List ℕ
-copied r out = cond (ltb (length out) (length r)) (7 * 16777216, out) (length r, sets out 0 r)
+copied r out = cond (ltb (length out) (length r)) (7 * ANSWER, out) (length r, sets out 0 r)
 
 unfoldable pub recordCopied : ℕ → ℕ → List ℕ → List ℕ → List ℕ → ℕ × List ℕ
 recordCopied lies size carry piece out = copied (recordIn (whereNumber (whereIs lies)) size carry piece) out

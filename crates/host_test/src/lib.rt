@@ -9,6 +9,9 @@ use pieces::reader::Reader;
 use pieces::reader::Where;
 use pieces::reader::record_in;
 
+// A result is answer * ANSWER + count, as host's are.
+const ANSWER: u32 = 16777216;
+
 // Where a record is, by its number; what is above 2 is nowhere.
 fn where_is(n: u8) -> Where
     ensures { λ r. ⌜ r ≡ whereIs n ⌝ }
@@ -42,7 +45,7 @@ pub extern "C" fn callcontrol_test_record_in<'a>(
     let record = record_in(found, carry, piece);
     let count = record.len();
     if out.len() < count {
-        return 7 * 16777216;
+        return 7 * ANSWER;
     }
     bytes::copy(record, out);
     count as u32

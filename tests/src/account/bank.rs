@@ -23,7 +23,7 @@ pub enum Refusal {
     /// 30: timer unknown.
     Timer = 30,
     /// 31: length out of range or missing.
-    Length = 31,
+    LengthOutOfRange = 31,
     /// 32: reading earlier than the last.
     Earlier = 32,
     /// 33: the lent list is shorter than the number due.
@@ -61,7 +61,7 @@ impl Bank {
             Timer::T308 => 4,
             Timer::T311 => 5,
             Timer::T310 if code <= 15 => 6 + code as usize,
-            Timer::T310 => return Err(Refusal::Length),
+            Timer::T310 => return Err(Refusal::LengthOutOfRange),
         };
         match table.get(entry) {
             Some(&length @ 1..=LONGEST) => {
@@ -69,7 +69,7 @@ impl Bank {
                 self.running[timer as usize] = true;
                 Ok(())
             }
-            _ => Err(Refusal::Length),
+            _ => Err(Refusal::LengthOutOfRange),
         }
     }
 
@@ -228,10 +228,10 @@ mod examples {
         let mut due = [0; 1];
         assert_eq!(bank.stop(304), Err(Refusal::Timer));
         assert_eq!(bank.start(&[], 305, 0), Err(Refusal::Timer));
-        assert_eq!(bank.start(&table(), 310, 16), Err(Refusal::Length));
-        assert_eq!(bank.start(&table()[..6], 310, 0), Err(Refusal::Length));
-        assert_eq!(bank.start(&[0], 301, 0), Err(Refusal::Length));
-        assert_eq!(bank.start(&[LONGEST + 1], 301, 0), Err(Refusal::Length));
+        assert_eq!(bank.start(&table(), 310, 16), Err(Refusal::LengthOutOfRange));
+        assert_eq!(bank.start(&table()[..6], 310, 0), Err(Refusal::LengthOutOfRange));
+        assert_eq!(bank.start(&[0], 301, 0), Err(Refusal::LengthOutOfRange));
+        assert_eq!(bank.start(&[LONGEST + 1], 301, 0), Err(Refusal::LengthOutOfRange));
         assert_eq!(bank.advance(999, &mut due), Err(Refusal::Earlier));
         assert_eq!(bank.advance(1000u32.wrapping_add(1 << 31), &mut due), Err(Refusal::Earlier));
         assert_eq!(bank.advance(1200, &mut due), Err(Refusal::List));

@@ -18,7 +18,7 @@ pub enum Refusal {
     /// 1: the bytes are no reader.
     NoReader = 1,
     /// 20: length impossible.
-    Length = 20,
+    ImpossibleLength = 20,
     /// 21: reader stopped.
     Stopped = 21,
     /// 22: carry buffer under 64 bytes.
@@ -67,7 +67,7 @@ impl Reader {
         // that says so is another's writing in the carry.
         if !(SHORTEST..=LONGEST).contains(&len) || len <= carried {
             *self = Reader { carried: 0, stopped: true };
-            return Err(Refusal::Length);
+            return Err(Refusal::ImpossibleLength);
         }
         if all < len {
             return Ok((Found::Nothing, self.carry_on(carry, piece)));
@@ -125,12 +125,12 @@ pub fn next(reader: &mut [u8], carry: &mut [u8], piece: &[u8]) -> u32 {
     match result {
         Err(refusal) => refused(refusal),
         Ok((found, used)) => {
-            let (place, size) = match found {
+            let (lies, size) = match found {
                 Found::Nothing => (0, 0),
                 Found::InCarry(size) => (1, size),
                 Found::InPiece(size) => (2, size),
             };
-            place << 16 | (size as u32) << 8 | used as u32
+            lies << 16 | (size as u32) << 8 | used as u32
         }
     }
 }
@@ -139,7 +139,7 @@ pub fn next(reader: &mut [u8], carry: &mut [u8], piece: &[u8]) -> u32 {
 mod examples {
     use super::*;
 
-    /// Answer, place, size and bytes used.
+    /// Answer, where the record is, size and bytes used.
     fn took(reader: &mut [u8; 2], carry: &mut [u8; 64], piece: &[u8]) -> (u32, u32, u32, u32) {
         let word = next(reader, carry, piece);
         (word >> 24, word >> 16 & 0xFF, word >> 8 & 0xFF, word & 0xFF)

@@ -12,7 +12,7 @@ mod exported {
             piece_len: usize,
         ) -> u32;
         pub fn callcontrol_test_record_in(
-            place: u8,
+            lies: u8,
             size: u8,
             carry: *const u8,
             carry_len: usize,
@@ -45,12 +45,12 @@ pub fn next(reader: &mut [u8], carry: &mut [u8], piece: &[u8]) -> u32 {
     }
 }
 
-/// The record that `next` handed on with this place and size, copied.
+/// The record that `next` handed on with this number of where it lies and this size, copied.
 #[inline]
-pub fn record_in(place: u8, size: u8, carry: &[u8], piece: &[u8], out: &mut [u8]) -> u32 {
+pub fn record_in(lies: u8, size: u8, carry: &[u8], piece: &[u8], out: &mut [u8]) -> u32 {
     unsafe {
         exported::callcontrol_test_record_in(
-            place,
+            lies,
             size,
             carry.as_ptr(),
             carry.len(),
