@@ -7,7 +7,7 @@ use lib.Dec.{eqb}
 use Rattle.records.specs.Letters.{width, a₁, d, q, i, i₀, c, a, n, o, p, g, x, s, y, u, v}
 use Rattle.records.specs.declared.messages.Message.{Message}
 use Rattle.records.specs.declared.messages.MessageRead.{MessageRead}
-use Rattle.records.specs.Bodies.{Values, flatBytes, flatSize}
+use Rattle.records.specs.Bodies.{Values, flatBytes, flatSize, laid, laidNext}
 use Rattle.records.specs.Tables.{Row, row, Table, Read, taken, refused, flat}
 
 pub data MessageKind : Type 0 where
@@ -190,3 +190,7 @@ messageBytes m = flatBytes (flat messages m)
 
 unfoldable pub messageSize : Message → ℕ
 messageSize m = flatSize (flat messages m)
+
+-- a message stored from a position on where it fits: the position after it, and the buffer then
+abbrev pub messageLaid : Message → List ℕ → ℕ → ℕ × List ℕ
+messageLaid m w at = (laidNext (messageBytes m) w at, laid (messageBytes m) w at)

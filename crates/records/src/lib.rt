@@ -4,4 +4,5 @@ pub mod bodies;
 pub mod events;
 mod fields;
 pub mod letters;
+pub mod message_lines;
 pub mod messages;
