@@ -11,10 +11,10 @@ use Rattle.records.specs.declared.events.Event.{Event}
 use Rattle.records.specs.declared.events.EventRead.{EventRead}
 use Rattle.records.specs.declared.messages.Message.{Message}
 use Rattle.records.specs.declared.messages.MessageRead.{MessageRead}
-use Rattle.records.specs.Bodies.{Wrote, wrote, notWritten, asHead, asWrote, kindIn, laid, laidNext}
+use Rattle.records.specs.Bodies.{Wrote, wrote, notWritten, asHead, asWrote, kindIn}
 use Rattle.records.specs.Tables.{Read, taken, refused, read, write}
 use Rattle.records.specs.Events.{events, asEventRead}
-use Rattle.records.specs.Messages.{messages, asMessageRead, messageBytes, messageSize}
+use Rattle.records.specs.Messages.{messages, asMessageRead, messageLaid, messageSize}
 use Rattle.records.specs.Laws.{Determines}
 
 -- what can be turned back leaves one result
@@ -88,8 +88,9 @@ write-event e buffer = into-determined (write events e buffer)
 pub write-message : (m : Message) (buffer : List ℕ) (w₁ w₂ : Written × List ℕ) → wroteInto w₁ ≡ write messages m buffer → wroteInto w₂ ≡ write messages m buffer → w₁ ≡ w₂
 write-message m buffer = into-determined (write messages m buffer)
 
-pub lay-message : (m : Message) (buffer : List ℕ) (at : ℕ) (w₁ w₂ : ℕ × List ℕ) → w₁ ≡ (laidNext (messageBytes m) buffer at, laid (messageBytes m) buffer at) → w₂ ≡ (laidNext (messageBytes m) buffer at, laid (messageBytes m) buffer at) → w₁ ≡ w₂
-lay-message m buffer at = equation (laidNext (messageBytes m) buffer at, laid (messageBytes m) buffer at)
+-- so of lay_message, and of the function of each message, whose promise is this at its own message
+pub lay-message : (m : Message) (buffer : List ℕ) (at : ℕ) (w₁ w₂ : ℕ × List ℕ) → w₁ ≡ messageLaid m buffer at → w₂ ≡ messageLaid m buffer at → w₁ ≡ w₂
+lay-message m buffer at = equation (messageLaid m buffer at)
 
 pub message-size : (m : Message) (r₁ r₂ : ℕ) → r₁ ≡ messageSize m → r₂ ≡ messageSize m → r₁ ≡ r₂
 message-size m = equation (messageSize m)

@@ -2,17 +2,18 @@
 use Prim.Native.Nat.{ℕ, zero, suc, _+_}
 use mathlib.Core.Bool.{Bool, _&&_}
 use mathlib.Core.Path.{_≡_, refl}
-use mathlib.Core.List.{List}
+use mathlib.Core.List.{List, _++_}
 use native.Mathlib.Omega.{arith}
 use borrow.Author.Tests.{eq-eqb, ne-eqb}
 use lib.ListN.{length}
 use Rattle.records.specs.declared.events.Event.{Event}
 use Rattle.records.specs.declared.messages.Message.{Message}
+use Rattle.records.specs.Bytes.{bytes}
 use Rattle.records.specs.Letters.{fits, slotsFit, a₁, d, q, i, g, o, r, o₁₆, s}
-use Rattle.records.specs.Bodies.{Found, is, badAt, valueAt, slotsAt, flatSize}
-use Rattle.records.specs.Tables.{flatOf, flat, fine}
-use Rattle.records.specs.Events.{events, setupRequestSlots, dConnectSlots, dInfoSlots}
-use Rattle.records.specs.Messages.{messages, uSetupSlots, messageSize}
+use Rattle.records.specs.Bodies.{Found, is, badAt, valueAt, slotsAt, bodyBytes, flatSize, flatBytes, lineBytes}
+use Rattle.records.specs.Tables.{fine}
+use Rattle.records.specs.Events.{events, eventBytes}
+use Rattle.records.specs.Messages.{messages, messageBytes, messageSize}
 use Rattle.records.proofs.Writing.{only, also, no-more, all-fit}
 
 pub carried-fit : (v : ℕ) → (v ≡ 0 → ⊥) → {b : Bool} → b ≡ fits s v → b ≡ slotsFit v
@@ -35,21 +36,25 @@ module _ (bytes : List ℕ) (at : ℕ) where
   unfolding slotsAt
   carried-at {x} e w = let other : length bytes ≡ at → ⊥ = λ z. omega arith in rw (ne-eqb _ _ other) at e
 
--- ---- with slots
+-- ---- with slots: the bytes are those of the longer line
 
-pub setup-request-slots : (address mode ask slots : ℕ) → (slots ≡ 0 → ⊥) → flat events (Event.SetupRequest address mode ask slots) ≡ flatOf events setupRequestSlots (address, (mode, (ask, (slots, tt))))
+pub setup-request-slots : (address mode ask slots : ℕ) → (slots ≡ 0 → ⊥) → eventBytes (Event.SetupRequest address mode ask slots) ≡ lineBytes 0x0101 (bytes 4 address ++ (bytes 1 mode ++ (bytes 1 ask ++ bytes 1 slots)))
+unfolding bytes bodyBytes flatSize flatBytes lineBytes eventBytes
 setup-request-slots address mode ask zero other = absurd (other refl)
 setup-request-slots address mode ask (suc m) other = refl
 
-pub d-connect-slots : (id grant mode code slots : ℕ) → (slots ≡ 0 → ⊥) → flat events (Event.DConnect id grant mode code slots) ≡ flatOf events dConnectSlots (id, (grant, (mode, (code, (slots, tt)))))
+pub d-connect-slots : (id grant mode code slots : ℕ) → (slots ≡ 0 → ⊥) → eventBytes (Event.DConnect id grant mode code slots) ≡ lineBytes 0x0203 (bytes 2 id ++ (bytes 1 grant ++ (bytes 1 mode ++ (bytes 1 code ++ bytes 1 slots))))
+unfolding bytes bodyBytes flatSize flatBytes lineBytes eventBytes
 d-connect-slots id grant mode code zero other = absurd (other refl)
 d-connect-slots id grant mode code (suc m) other = refl
 
-pub d-info-slots : (id reset code mode slots : ℕ) → (slots ≡ 0 → ⊥) → flat events (Event.DInfo id reset code mode slots) ≡ flatOf events dInfoSlots (id, (reset, (code, (mode, (slots, tt)))))
+pub d-info-slots : (id reset code mode slots : ℕ) → (slots ≡ 0 → ⊥) → eventBytes (Event.DInfo id reset code mode slots) ≡ lineBytes 0x0206 (bytes 2 id ++ (bytes 1 reset ++ (bytes 1 code ++ (bytes 1 mode ++ bytes 1 slots))))
+unfolding bytes bodyBytes flatSize flatBytes lineBytes eventBytes
 d-info-slots id reset code mode zero other = absurd (other refl)
 d-info-slots id reset code mode (suc m) other = refl
 
-pub u-setup-slots : (address mode ask slots : ℕ) → (slots ≡ 0 → ⊥) → flat messages (Message.USetup address mode ask slots) ≡ flatOf messages uSetupSlots (address, (mode, (ask, (slots, tt))))
+pub u-setup-slots : (address mode ask slots : ℕ) → (slots ≡ 0 → ⊥) → messageBytes (Message.USetup address mode ask slots) ≡ lineBytes 0x0501 (bytes 4 address ++ (bytes 1 mode ++ (bytes 1 ask ++ bytes 1 slots)))
+unfolding bytes bodyBytes flatSize flatBytes lineBytes messageBytes
 u-setup-slots address mode ask zero other = absurd (other refl)
 u-setup-slots address mode ask (suc m) other = refl
 

@@ -1,19 +1,18 @@
 -- A record written from left to right: the tests of its fields, and the stores of head and fields one after the other, are those of its row.
-use Prim.Native.Nat.{ℕ, _+_, _-_, _%_, _<_, _≤_}
+use Prim.Native.Nat.{ℕ, _+_, _%_, _<_, _≤_}
 use mathlib.Core.Bool.{Bool, true, false, cond, not, _&&_, and-true}
-use mathlib.Core.List.{List, [], _∷_, _++_, append-assoc, append-nil}
+use mathlib.Core.List.{List, [], _∷_, _++_, append-assoc}
 use mathlib.Core.Path.{_≡_, refl, sym, _∙_, ap}
-use native.Mathlib.Nat.{zero-add, add-zero, mod-eq-of-lt}
+use native.Mathlib.Nat.{zero-add, mod-eq-of-lt}
 use native.Mathlib.Omega.{arith}
-use borrow.Author.Tests.{leb-true, leb-false, lt-leb, le-leb, not-true, not-false}
+use borrow.Author.Tests.{lt-leb, le-leb, not-true, not-false}
 use lib.Dec.{leb}
-use borrow.Rule.Slice.PartMut.{midOf, putMid}
-use lib.ListN.{length, set, take, drop, length-append, length-drop, take-append-drop, drop-of-length-le}
-use lib.Seq.{sets, sets-eq, drop-drop, take-all}
+use lib.ListN.{length, set, length-append}
+use lib.Seq.{sets}
 use Rattle.records.specs.declared.letters.Byte.{Byte}
 use Rattle.records.specs.Bytes.{bytes}
 use Rattle.records.specs.Letters.{Letter, width, fits}
-use Rattle.records.specs.Bodies.{Values, Flat, Wrote, wrote, notWritten, size, allFit, bodyBytes, flatSize, flatFits, flatBytes, written, laid, laidNext}
+use Rattle.records.specs.Bodies.{Values, Flat, Stored, Wrote, wrote, notWritten, size, allFit, bodyBytes, flatSize, flatFits, flatBytes, written, laid, laidNext}
 use Rattle.records.specs.Tables.{Table, flat, fine, write}
 use Rattle.records.proofs.Laws.{by-test, sets-append, length-bytes, length-flatBytes}
 
@@ -71,15 +70,27 @@ module _ (f : Flat) (old : List ℕ) {mid new : List ℕ} (head : mid ≡ sets o
 
 -- ---- a record into a buffer
 
+module _ (out buffer : List ℕ) (at : ℕ) where
+  -- nothing where there is no room from a position on
+  pub no-room : length buffer < at + length out → _≡_ {A = ℕ × List ℕ} (at, buffer) (laidNext out buffer at, laid out buffer at)
+  unfolding laid laidNext
+  no-room h = rw (lt-leb (at + length out) (length buffer) h)
+
+  -- and else all
+  pub all-laid : {next : ℕ} {new : List ℕ} → at + length out ≤ length buffer → Stored buffer at out next new → _≡_ {A = ℕ × List ℕ} (next, new) (laidNext out buffer at, laid out buffer at)
+  unfolding laid laidNext
+  all-laid h s = rw (le-leb (at + length out) (length buffer) h, s .end, s .now)
+
 module _ (f : Flat) (old : List ℕ) where
   pub too-long : length old < 4 + size (f .letters) → _≡_ {A = ℕ × List ℕ} (0, old) (laidNext (flatBytes f) old 0, laid (flatBytes f) old 0)
-  unfolding laid laidNext flatSize
-  too-long h = rw (lt-leb (0 + length (flatBytes f)) (length old) (rw length-flatBytes (omega arith)))
+  unfolding flatSize
+  too-long h = no-room (flatBytes f) old 0 (rw length-flatBytes (omega arith))
 
   pub fitting : 4 + size (f .letters) ≤ length old → {mid new : List ℕ} → mid ≡ sets old 0 (bytes 2 (4 + size (f .letters)) ++ bytes 2 (f .kind)) → Put (f .letters) (f .values) mid 4 new → _≡_ {A = ℕ × List ℕ} (4 + size (f .letters), new) (laidNext (flatBytes f) old 0, laid (flatBytes f) old 0)
-  unfolding laid laidNext flatSize
+  unfolding flatSize
   fitting room head body =
-      rw (le-leb (0 + length (flatBytes f)) (length old) (rw length-flatBytes (omega arith)), record-stored f old head body, zero-add, length-flatBytes)
+      all-laid (flatBytes f) old 0 (rw length-flatBytes (omega arith))
+      (record { end = rw length-flatBytes (omega arith); now = record-stored f old head body })
 
 module _ (t : Table) (v : t .Value) where
   -- every test of a value
@@ -105,7 +116,7 @@ pub bytes-some : (f : Flat) → 0 < length (flatBytes f)
 unfolding flatSize
 bytes-some f = rw length-flatBytes (omega arith)
 
--- ---- a message, from what `put_message` leaves
+-- ---- a record, from what laying it at the front leaves
 
 module _ (out buffer : List ℕ) {new : List ℕ} {n : ℕ} (put : _≡_ {A = ℕ × List ℕ} (n, new) (laidNext out buffer 0, laid out buffer 0)) (some : 0 < length out) where
   -- none of it where it does not fit, and else all
@@ -125,42 +136,3 @@ module _ (out buffer : List ℕ) {new : List ℕ} {n : ℕ} (put : _≡_ {A = �
       let f : new ≡ sets buffer 0 out = rw (zero-add, h) at (ap (λ (p : ℕ × List ℕ). p .1) put) in
       rw (h, e, f))
       (λ h. let e : n ≡ 0 = rw (zero-add, h) at (ap (λ (p : ℕ × List ℕ). p .0) put) in absurd (other e))
-
--- a position behind the buffer
-pub too-far : (out buffer : List ℕ) (at : ℕ) → length buffer < at → _≡_ {A = ℕ × List ℕ} (at, buffer) (laidNext out buffer at, laid out buffer at)
-unfolding laid laidNext
-too-far out buffer at h = rw (lt-leb (at + length out) (length buffer) (omega arith))
-
--- the part of a buffer from a position on, lent and put back
-part-whole : (b : List ℕ) (at : ℕ) → take (length b - at) (drop at b) ≡ drop at b
-part-whole b at = take-all (length b - at) (drop at b) (rw (length-drop at b) (omega arith))
-
-put-whole : (b y : List ℕ) (at : ℕ) → putMid at (length b - at) b y ≡ take at b ++ y
-put-whole b y at =
-    let none : drop (length b - at) (drop at b) ≡ [] = drop-of-length-le (drop at b) {i = length b - at} (rw (length-drop at b) (omega arith)) in
-    rw (none, append-nil y)
-
-module _ (out buffer : List ℕ) (at : ℕ) {n : ℕ} {part : List ℕ} (inside : at ≤ length buffer) (stores : _≡_ {A = ℕ × List ℕ} (n, part) (laidNext out (midOf at (length buffer - at) buffer) 0, laid out (midOf at (length buffer - at) buffer) 0)) where
-  in-part : (_≡_ {A = ℕ × List ℕ} (at + n, take at buffer ++ part) (laidNext out buffer at, laid out buffer at)) × (at + n ≤ length buffer)
-  unfolding laid laidNext
-  in-part =
-      let len : length (drop at buffer) ≡ length buffer - at = length-drop at buffer in
-      by-test (leb (at + length out) (length buffer))
-      (λ h.
-      let room : at + length out ≤ length buffer = leb-true (at + length out) (length buffer) h in
-      let fits : leb (0 + length out) (length (drop at buffer)) ≡ true = le-leb (0 + length out) (length (drop at buffer)) (omega arith) in
-      let e : n ≡ 0 + length out = rw (part-whole buffer at, fits) at (ap (λ (p : ℕ × List ℕ). p .0) stores) in
-      let f : part ≡ sets (drop at buffer) 0 out = rw (part-whole buffer at, fits) at (ap (λ (p : ℕ × List ℕ). p .1) stores) in
-      (rw (h, e, f, zero-add, sets-eq out (drop at buffer) 0 (omega arith), sets-eq out buffer at room, zero-add, drop-drop, append-assoc), omega (arith, e)))
-      (λ h.
-      let short : length buffer < at + length out = leb-false (at + length out) (length buffer) h in
-      let fails : leb (0 + length out) (length (drop at buffer)) ≡ false = lt-leb (0 + length out) (length (drop at buffer)) (omega arith) in
-      let e : n ≡ 0 = rw (part-whole buffer at, fails) at (ap (λ (p : ℕ × List ℕ). p .0) stores) in
-      let f : part ≡ drop at buffer = rw (part-whole buffer at, fails) at (ap (λ (p : ℕ × List ℕ). p .1) stores) in
-      (rw (h, e, f, take-append-drop, add-zero), omega (arith, e)))
-
-  pub part-laid : _≡_ {A = ℕ × List ℕ} (at + n, putMid at (length buffer - at) buffer part) (laidNext out buffer at, laid out buffer at)
-  part-laid = rw (put-whole buffer part at) (in-part .0)
-
-  pub part-end : at + n ≤ length buffer
-  part-end = in-part .1

@@ -104,6 +104,14 @@ laid out buffer at = cond (leb (at + length out) (length buffer)) (sets buffer a
 unfoldable pub laidNext : List ℕ → List ℕ → ℕ → ℕ
 laidNext out buffer at = cond (leb (at + length out) (length buffer)) (at + length out) at
 
+-- a record from its kind and the bytes of its body
+unfoldable pub lineBytes : ℕ → List ℕ → List ℕ
+lineBytes kind body = bytes 2 (4 + length body) ++ (bytes 2 kind ++ body)
+
+-- and stored from a position on where it fits: the position after it, and the buffer then
+abbrev pub lineLaid : ℕ → List ℕ → List ℕ → ℕ → ℕ × List ℕ
+lineLaid kind body buffer at = (laidNext (lineBytes kind body) buffer at, laid (lineBytes kind body) buffer at)
+
 -- bytes stored from a position on: the position after them, and the buffer then
 pub record Stored (old : List ℕ) (at : ℕ) (xs : List ℕ) (next : ℕ) (new : List ℕ) : Type 0 where
   pub end : next ≡ at + length xs

@@ -1,13 +1,13 @@
 -- The paper's table of events, and what its lines stand for. Where a record may carry the slots at its end (document 02), each of its two bodies
 -- is a line; they are one value, whose slots are 0 where the body carries none.
-use Prim.Native.Nat.{zero, suc}
+use Prim.Native.Nat.{ℕ, zero, suc}
 use mathlib.Core.Bool.{true}
 use mathlib.Core.List.{List, [], _∷_, _++_}
 use Rattle.records.specs.Letters.{a₁, d, q, k, i, g, o, a, r, o₁₆, i₀, n, s}
 use Rattle.records.specs.declared.events.Event.{Event}
 use Rattle.records.specs.declared.events.EventRead.{EventRead}
-use Rattle.records.specs.Bodies.{Values}
-use Rattle.records.specs.Tables.{Row, row, Table, Read, taken, refused}
+use Rattle.records.specs.Bodies.{Values, flatBytes, laid, laidNext}
+use Rattle.records.specs.Tables.{Row, row, Table, Read, taken, refused, flat}
 
 pub data EventKind : Type 0 where
   setupRequest setupRequestSlots setupResponse releaseRequest txRequest dCallProceeding dAlert dConnect dConnectSlots dConnectAcknowledge dSetup dInfo dInfoSlots dTxGranted dTxCeased dTxInterrupt dTxWait dTxContinue dCallRestore dDisconnect dRelease reportSent reportFailed break resume expiry : EventKind
@@ -166,3 +166,11 @@ asEventRead EventRead.BadLength = refused 2 0
 asEventRead EventRead.UnknownKind = refused 3 0
 asEventRead EventRead.Retired = refused 9 0
 asEventRead (EventRead.BadBody place) = refused 4 place
+
+-- an event as bytes
+unfoldable pub eventBytes : Event → List ℕ
+eventBytes e = flatBytes (flat events e)
+
+-- and stored from a position on where it fits: the position after it, and the buffer then
+abbrev pub eventLaid : Event → List ℕ → ℕ → ℕ × List ℕ
+eventLaid e w at = (laidNext (eventBytes e) w at, laid (eventBytes e) w at)

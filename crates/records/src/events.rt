@@ -2,9 +2,10 @@
 ghost use mathlib.Core.Path.{_≡_};
 ghost use mathlib.Core.List.{List, _++_};
 ghost use Prim.Native.Nat.{ℕ};
-ghost use Rattle.records.specs.Bodies.{Wrote, asWrote, flatBytes, laid, laidNext};
-ghost use Rattle.records.specs.Tables.{readBody, readAmong, read, flatOf, flat, fine, write};
-ghost use Rattle.records.specs.Events.{events, setupRequestSlots, dConnectSlots, dInfoSlots, eventKinds, setupKinds, callKinds, lowerKinds, asEventRead};
+ghost use Rattle.records.specs.declared.events.Event.{Event};
+ghost use Rattle.records.specs.Bodies.{Wrote, asWrote};
+ghost use Rattle.records.specs.Tables.{readBody, readAmong, read, fine, write};
+ghost use Rattle.records.specs.Events.{events, eventKinds, setupKinds, callKinds, lowerKinds, asEventRead, eventLaid};
 use crate::bodies::Head;
 use crate::bodies::Written;
 use crate::bodies::kind_in;
@@ -13,9 +14,6 @@ use crate::fields::LongField;
 use crate::fields::WordField;
 use crate::fields::byte_in;
 use crate::fields::long_in;
-use crate::fields::put_head;
-use crate::fields::put_long;
-use crate::fields::put_word;
 use crate::fields::slots_in;
 use crate::fields::word_in;
 use crate::letters::Byte;
@@ -25,6 +23,16 @@ use crate::letters::byte_fits;
 use crate::letters::long_fits;
 use crate::letters::slots_fit;
 use crate::letters::word_fits;
+use crate::lines::lay_bare;
+use crate::lines::lay_byte;
+use crate::lines::lay_long_three_bytes;
+use crate::lines::lay_long_two_bytes;
+use crate::lines::lay_word;
+use crate::lines::lay_word_byte;
+use crate::lines::lay_word_four_bytes;
+use crate::lines::lay_word_long_byte;
+use crate::lines::lay_word_three_bytes;
+use crate::lines::lay_word_two_bytes;
 
 pub enum Event {
     // 0101 SETUP request. The user asks for a call to an address.
@@ -474,56 +482,62 @@ pub fn read_event(s: &[u8]) -> EventRead
     read_user(kind, s)
 }
 
-// SETUP request a d q s, stored as below.
-fn put_setup_request_slots(address: u32, mode: u8, ask: u8, slots: u8, out: &mut [u8]) -> usize
-    ensures { λ r. ⌜ _≡_ {A = ℕ × List ℕ} (r, now (out .exit)) (laidNext (flatBytes (flatOf events setupRequestSlots (address, (mode, (ask, (slots, tt)))))) (now (out .entry)) 0, laid (flatBytes (flatOf events setupRequestSlots (address, (mode, (ask, (slots, tt)))))) (now (out .entry)) 0) ⌝ }
+// SETUP request a d q, or with s behind them
+fn lay_setup_request(
+    address: u32,
+    mode: u8,
+    ask: u8,
+    slots: u8,
+    buffer: &mut [u8],
+    at: usize,
+) -> usize
+    ensures { λ r. ⌜ _≡_ {A = ℕ × List ℕ} (r, now (buffer .exit)) (eventLaid (Event.SetupRequest address mode ask slots) (now (buffer .entry)) at) ⌝ }
 {
-    if out.len() < 11 {
-        return 0;
+    if slots == 0 {
+        return lay_long_two_bytes(0x0101, address, mode, ask, buffer, at);
     }
-    put_head(out, 11, 0x0101);
-    put_long(out, 4, address);
-    out[8] = mode;
-    out[9] = ask;
-    out[10] = slots;
-    11
+    lay_long_three_bytes(0x0101, address, mode, ask, slots, buffer, at)
 }
 
-// D-CONNECT i g d o s, stored as below.
-fn put_d_connect_slots(id: u16, grant: u8, mode: u8, code: u8, slots: u8, out: &mut [u8]) -> usize
-    ensures { λ r. ⌜ _≡_ {A = ℕ × List ℕ} (r, now (out .exit)) (laidNext (flatBytes (flatOf events dConnectSlots (id, (grant, (mode, (code, (slots, tt))))))) (now (out .entry)) 0, laid (flatBytes (flatOf events dConnectSlots (id, (grant, (mode, (code, (slots, tt))))))) (now (out .entry)) 0) ⌝ }
+// D-CONNECT i g d o, or with s behind them
+fn lay_d_connect(
+    id: u16,
+    grant: u8,
+    mode: u8,
+    code: u8,
+    slots: u8,
+    buffer: &mut [u8],
+    at: usize,
+) -> usize
+    ensures { λ r. ⌜ _≡_ {A = ℕ × List ℕ} (r, now (buffer .exit)) (eventLaid (Event.DConnect id grant mode code slots) (now (buffer .entry)) at) ⌝ }
 {
-    if out.len() < 10 {
-        return 0;
+    if slots == 0 {
+        return lay_word_three_bytes(0x0203, id, grant, mode, code, buffer, at);
     }
-    put_head(out, 10, 0x0203);
-    put_word(out, 4, id);
-    out[6] = grant;
-    out[7] = mode;
-    out[8] = code;
-    out[9] = slots;
-    10
+    lay_word_four_bytes(0x0203, id, grant, mode, code, slots, buffer, at)
 }
 
-// D-INFO i r o d s, stored as below.
-fn put_d_info_slots(id: u16, reset: u8, code: u8, mode: u8, slots: u8, out: &mut [u8]) -> usize
-    ensures { λ r. ⌜ _≡_ {A = ℕ × List ℕ} (r, now (out .exit)) (laidNext (flatBytes (flatOf events dInfoSlots (id, (reset, (code, (mode, (slots, tt))))))) (now (out .entry)) 0, laid (flatBytes (flatOf events dInfoSlots (id, (reset, (code, (mode, (slots, tt))))))) (now (out .entry)) 0) ⌝ }
+// D-INFO i r o d, or with s behind them
+fn lay_d_info(
+    id: u16,
+    reset: u8,
+    code: u8,
+    mode: u8,
+    slots: u8,
+    buffer: &mut [u8],
+    at: usize,
+) -> usize
+    ensures { λ r. ⌜ _≡_ {A = ℕ × List ℕ} (r, now (buffer .exit)) (eventLaid (Event.DInfo id reset code mode slots) (now (buffer .entry)) at) ⌝ }
 {
-    if out.len() < 10 {
-        return 0;
+    if slots == 0 {
+        return lay_word_three_bytes(0x0206, id, reset, code, mode, buffer, at);
     }
-    put_head(out, 10, 0x0206);
-    put_word(out, 4, id);
-    out[6] = reset;
-    out[7] = code;
-    out[8] = mode;
-    out[9] = slots;
-    10
+    lay_word_four_bytes(0x0206, id, reset, code, mode, slots, buffer, at)
 }
 
-// Stores an event at the front of a buffer where it fits, whatever its values, and answers how many bytes it took: 0 where it does not fit.
-fn put_event(e: Event, out: &mut [u8]) -> usize
-    ensures { λ r. ⌜ _≡_ {A = ℕ × List ℕ} (r, now (out .exit)) (laidNext (flatBytes (flat events e)) (now (out .entry)) 0, laid (flatBytes (flat events e)) (now (out .entry)) 0) ⌝ }
+// Stores an event's bytes from a position on where they fit, whatever its values, and answers the position after them.
+fn lay_event(e: Event, buffer: &mut [u8], at: usize) -> usize
+    ensures { λ r. ⌜ _≡_ {A = ℕ × List ℕ} (r, now (buffer .exit)) (eventLaid e (now (buffer .entry)) at) ⌝ }
 {
     match e {
         Event::SetupRequest {
@@ -531,228 +545,60 @@ fn put_event(e: Event, out: &mut [u8]) -> usize
             mode,
             ask,
             slots,
-        } => { // SETUP request a d q, or with s behind them
-            if slots != 0 {
-                return put_setup_request_slots(address, mode, ask, slots, out);
-            }
-            if out.len() < 10 {
-                return 0;
-            }
-            put_head(out, 10, 0x0101);
-            put_long(out, 4, address);
-            out[8] = mode;
-            out[9] = ask;
-            10
-        }
-        Event::SetupResponse => { // SETUP response
-            if out.len() < 4 {
-                return 0;
-            }
-            put_head(out, 4, 0x0102);
-            4
-        }
-        Event::ReleaseRequest => { // RELEASE request
-            if out.len() < 4 {
-                return 0;
-            }
-            put_head(out, 4, 0x0103);
-            4
-        }
-        Event::TxRequest { go } => { // TX request k
-            if out.len() < 5 {
-                return 0;
-            }
-            put_head(out, 5, 0x0104);
-            out[4] = go;
-            5
-        }
-        Event::DCallProceeding { id } => { // D-CALL PROCEEDING i
-            if out.len() < 6 {
-                return 0;
-            }
-            put_head(out, 6, 0x0201);
-            put_word(out, 4, id);
-            6
-        }
-        Event::DAlert { id } => { // D-ALERT i
-            if out.len() < 6 {
-                return 0;
-            }
-            put_head(out, 6, 0x0202);
-            put_word(out, 4, id);
-            6
-        }
+        } => lay_setup_request(address, mode, ask, slots, buffer, at), // SETUP request a d q, or with s behind them
+        Event::SetupResponse => lay_bare(0x0102, buffer, at), // SETUP response
+        Event::ReleaseRequest => lay_bare(0x0103, buffer, at), // RELEASE request
+        Event::TxRequest { go } => lay_byte(0x0104, go, buffer, at), // TX request k
+        Event::DCallProceeding { id } => lay_word(0x0201, id, buffer, at), // D-CALL PROCEEDING i
+        Event::DAlert { id } => lay_word(0x0202, id, buffer, at), // D-ALERT i
         Event::DConnect {
             id,
             grant,
             mode,
             code,
             slots,
-        } => { // D-CONNECT i g d o, or with s behind them
-            if slots != 0 {
-                return put_d_connect_slots(id, grant, mode, code, slots, out);
-            }
-            if out.len() < 9 {
-                return 0;
-            }
-            put_head(out, 9, 0x0203);
-            put_word(out, 4, id);
-            out[6] = grant;
-            out[7] = mode;
-            out[8] = code;
-            9
-        }
-        Event::DConnectAcknowledge { id, grant, code } => { // D-CONNECT ACKNOWLEDGE i g o
-            if out.len() < 8 {
-                return 0;
-            }
-            put_head(out, 8, 0x0204);
-            put_word(out, 4, id);
-            out[6] = grant;
-            out[7] = code;
-            8
-        }
-        Event::DSetup { id, address, mode } => { // D-SETUP i a d
-            if out.len() < 11 {
-                return 0;
-            }
-            put_head(out, 11, 0x0205);
-            put_word(out, 4, id);
-            put_long(out, 6, address);
-            out[10] = mode;
-            11
-        }
+        } => lay_d_connect(id, grant, mode, code, slots, buffer, at), // D-CONNECT i g d o, or with s behind them
+        Event::DConnectAcknowledge { id, grant, code } => lay_word_two_bytes(
+            0x0204,
+            id,
+            grant,
+            code,
+            buffer,
+            at,
+        ), // D-CONNECT ACKNOWLEDGE i g o
+        Event::DSetup { id, address, mode } => lay_word_long_byte(
+            0x0205,
+            id,
+            address,
+            mode,
+            buffer,
+            at,
+        ), // D-SETUP i a d
         Event::DInfo {
             id,
             reset,
             code,
             mode,
             slots,
-        } => { // D-INFO i r o d, or with s behind them
-            if slots != 0 {
-                return put_d_info_slots(id, reset, code, mode, slots, out);
-            }
-            if out.len() < 9 {
-                return 0;
-            }
-            put_head(out, 9, 0x0206);
-            put_word(out, 4, id);
-            out[6] = reset;
-            out[7] = code;
-            out[8] = mode;
-            9
-        }
-        Event::DTxGranted { id, grant } => { // D-TX GRANTED i g
-            if out.len() < 7 {
-                return 0;
-            }
-            put_head(out, 7, 0x0207);
-            put_word(out, 4, id);
-            out[6] = grant;
-            7
-        }
-        Event::DTxCeased { id } => { // D-TX CEASED i
-            if out.len() < 6 {
-                return 0;
-            }
-            put_head(out, 6, 0x0208);
-            put_word(out, 4, id);
-            6
-        }
-        Event::DTxInterrupt { id, grant } => { // D-TX INTERRUPT i g
-            if out.len() < 7 {
-                return 0;
-            }
-            put_head(out, 7, 0x0209);
-            put_word(out, 4, id);
-            out[6] = grant;
-            7
-        }
-        Event::DTxWait { id } => { // D-TX WAIT i
-            if out.len() < 6 {
-                return 0;
-            }
-            put_head(out, 6, 0x020A);
-            put_word(out, 4, id);
-            6
-        }
-        Event::DTxContinue { id, go } => { // D-TX CONTINUE i k
-            if out.len() < 7 {
-                return 0;
-            }
-            put_head(out, 7, 0x020B);
-            put_word(out, 4, id);
-            out[6] = go;
-            7
-        }
+        } => lay_d_info(id, reset, code, mode, slots, buffer, at), // D-INFO i r o d, or with s behind them
+        Event::DTxGranted { id, grant } => lay_word_byte(0x0207, id, grant, buffer, at), // D-TX GRANTED i g
+        Event::DTxCeased { id } => lay_word(0x0208, id, buffer, at), // D-TX CEASED i
+        Event::DTxInterrupt { id, grant } => lay_word_byte(0x0209, id, grant, buffer, at), // D-TX INTERRUPT i g
+        Event::DTxWait { id } => lay_word(0x020A, id, buffer, at), // D-TX WAIT i
+        Event::DTxContinue { id, go } => lay_word_byte(0x020B, id, go, buffer, at), // D-TX CONTINUE i k
         Event::DCallRestore {
             id,
             grant,
             reset,
             code,
-        } => { // D-CALL RESTORE i g r o
-            if out.len() < 9 {
-                return 0;
-            }
-            put_head(out, 9, 0x020C);
-            put_word(out, 4, id);
-            out[6] = grant;
-            out[7] = reset;
-            out[8] = code;
-            9
-        }
-        Event::DDisconnect { id } => { // D-DISCONNECT i
-            if out.len() < 6 {
-                return 0;
-            }
-            put_head(out, 6, 0x020D);
-            put_word(out, 4, id);
-            6
-        }
-        Event::DRelease { id } => { // D-RELEASE i
-            if out.len() < 6 {
-                return 0;
-            }
-            put_head(out, 6, 0x020E);
-            put_word(out, 4, id);
-            6
-        }
-        Event::ReportSent => { // REPORT sent
-            if out.len() < 4 {
-                return 0;
-            }
-            put_head(out, 4, 0x0301);
-            4
-        }
-        Event::ReportFailed => { // REPORT failed
-            if out.len() < 4 {
-                return 0;
-            }
-            put_head(out, 4, 0x0302);
-            4
-        }
-        Event::Break => { // BREAK
-            if out.len() < 4 {
-                return 0;
-            }
-            put_head(out, 4, 0x0303);
-            4
-        }
-        Event::Resume => { // RESUME
-            if out.len() < 4 {
-                return 0;
-            }
-            put_head(out, 4, 0x0304);
-            4
-        }
-        Event::Expiry { timer } => { // expiry n
-            if out.len() < 6 {
-                return 0;
-            }
-            put_head(out, 6, 0x0401);
-            put_word(out, 4, timer);
-            6
-        }
+        } => lay_word_three_bytes(0x020C, id, grant, reset, code, buffer, at), // D-CALL RESTORE i g r o
+        Event::DDisconnect { id } => lay_word(0x020D, id, buffer, at), // D-DISCONNECT i
+        Event::DRelease { id } => lay_word(0x020E, id, buffer, at), // D-RELEASE i
+        Event::ReportSent => lay_bare(0x0301, buffer, at), // REPORT sent
+        Event::ReportFailed => lay_bare(0x0302, buffer, at), // REPORT failed
+        Event::Break => lay_bare(0x0303, buffer, at), // BREAK
+        Event::Resume => lay_bare(0x0304, buffer, at), // RESUME
+        Event::Expiry { timer } => lay_word(0x0401, timer, buffer, at), // expiry n
     }
 }
 
@@ -839,7 +685,7 @@ pub fn write_event(e: Event, buffer: &mut [u8]) -> Written
     if !event_fits(e) {
         return Written::BadField;
     }
-    let size = put_event(e, buffer);
+    let size = lay_event(e, buffer, 0);
     if size == 0 {
         return Written::NoRoom;
     }

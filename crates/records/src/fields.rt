@@ -94,6 +94,14 @@ pub fn long_in(s: &[u8], at: usize, letter: Long) -> LongField
 
 // Each stores at a position and answers the next one.
 
+pub fn put_byte(out: &mut [u8], at: usize, v: u8) -> usize
+    requires { ⌜ at < length (now out) ⌝ }
+    ensures { λ r. ⌜ Stored (now (out .entry)) at (bytes 1 v) r (now (out .exit)) ⌝ }
+{
+    out[at] = v;
+    at + 1
+}
+
 pub fn put_word(out: &mut [u8], at: usize, v: u16) -> usize
     requires { ⌜ at + 2 ≤ length (now out) ⌝ }
     ensures { λ r. ⌜ Stored (now (out .entry)) at (bytes 2 v) r (now (out .exit)) ⌝ }
@@ -114,10 +122,10 @@ pub fn put_long(out: &mut [u8], at: usize, v: u32) -> usize
 }
 
 // The head of a record: its length and its kind.
-pub fn put_head(out: &mut [u8], size: u16, kind: u16) -> usize
-    requires { ⌜ 4 ≤ length (now out) ⌝ }
-    ensures { λ r. ⌜ Stored (now (out .entry)) 0 (bytes 2 size ++ bytes 2 kind) r (now (out .exit)) ⌝ }
+pub fn put_head(out: &mut [u8], at: usize, size: u16, kind: u16) -> usize
+    requires { ⌜ at + 4 ≤ length (now out) ⌝ }
+    ensures { λ r. ⌜ Stored (now (out .entry)) at (bytes 2 size ++ bytes 2 kind) r (now (out .exit)) ⌝ }
 {
-    let next = put_word(out, 0, size);
+    let next = put_word(out, at, size);
     put_word(out, next, kind)
 }

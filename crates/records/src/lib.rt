@@ -4,5 +4,6 @@ pub mod bodies;
 pub mod events;
 mod fields;
 pub mod letters;
+mod lines;
 pub mod message_lines;
 pub mod messages;

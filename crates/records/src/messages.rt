@@ -2,9 +2,9 @@
 ghost use mathlib.Core.Path.{_≡_};
 ghost use mathlib.Core.List.{List, _++_};
 ghost use Prim.Native.Nat.{ℕ};
-ghost use Rattle.records.specs.Bodies.{Wrote, asWrote, flatBytes, laid, laidNext};
-ghost use Rattle.records.specs.Tables.{readBody, readAmong, read, flatOf, fine, write};
-ghost use Rattle.records.specs.Messages.{messages, uSetupSlots, messageKinds, hostKinds, toUserKinds, asMessageRead, startAgrees, messageBytes, messageSize};
+ghost use Rattle.records.specs.Bodies.{Wrote, asWrote, laid, laidNext};
+ghost use Rattle.records.specs.Tables.{readBody, readAmong, read, fine, write};
+ghost use Rattle.records.specs.Messages.{messages, messageKinds, hostKinds, toUserKinds, asMessageRead, startAgrees, messageBytes, messageSize};
 use crate::bodies::Head;
 use crate::bodies::Written;
 use crate::bodies::kind_in;
@@ -13,9 +13,6 @@ use crate::fields::LongField;
 use crate::fields::WordField;
 use crate::fields::byte_in;
 use crate::fields::long_in;
-use crate::fields::put_head;
-use crate::fields::put_long;
-use crate::fields::put_word;
 use crate::fields::slots_in;
 use crate::fields::word_in;
 use crate::letters::Byte;
@@ -25,6 +22,29 @@ use crate::letters::byte_fits;
 use crate::letters::long_fits;
 use crate::letters::slots_fit;
 use crate::letters::word_fits;
+use crate::message_lines::lay_alert;
+use crate::message_lines::lay_cancel;
+use crate::message_lines::lay_channel_answer;
+use crate::message_lines::lay_complete;
+use crate::message_lines::lay_configure;
+use crate::message_lines::lay_modify_indication;
+use crate::message_lines::lay_place;
+use crate::message_lines::lay_proceed;
+use crate::message_lines::lay_release_confirm;
+use crate::message_lines::lay_release_indication;
+use crate::message_lines::lay_setup_confirm;
+use crate::message_lines::lay_setup_indication;
+use crate::message_lines::lay_start;
+use crate::message_lines::lay_stop;
+use crate::message_lines::lay_tx_indication;
+use crate::message_lines::lay_u_call_restore;
+use crate::message_lines::lay_u_connect;
+use crate::message_lines::lay_u_disconnect;
+use crate::message_lines::lay_u_info;
+use crate::message_lines::lay_u_release;
+use crate::message_lines::lay_u_setup;
+use crate::message_lines::lay_u_tx_ceased;
+use crate::message_lines::lay_u_tx_demand;
 
 pub enum Message {
     // 0501 U-SETUP. Asks the network for a call.
@@ -427,229 +447,6 @@ pub fn read_message(s: &[u8]) -> MessageRead
     read_network(kind, s)
 }
 
-// U-SETUP a d q s, stored as below.
-fn put_u_setup_slots(address: u32, mode: u8, ask: u8, slots: u8, out: &mut [u8]) -> usize
-    ensures { λ r. ⌜ _≡_ {A = ℕ × List ℕ} (r, now (out .exit)) (laidNext (flatBytes (flatOf messages uSetupSlots (address, (mode, (ask, (slots, tt)))))) (now (out .entry)) 0, laid (flatBytes (flatOf messages uSetupSlots (address, (mode, (ask, (slots, tt)))))) (now (out .entry)) 0) ⌝ }
-{
-    if out.len() < 11 {
-        return 0;
-    }
-    put_head(out, 11, 0x0501);
-    put_long(out, 4, address);
-    out[8] = mode;
-    out[9] = ask;
-    out[10] = slots;
-    11
-}
-
-// Stores a message at the front of a buffer where it fits, whatever its values, and answers how many bytes it took: 0 where it does not fit.
-fn put_message(m: Message, out: &mut [u8]) -> usize
-    ensures { λ r. ⌜ _≡_ {A = ℕ × List ℕ} (r, now (out .exit)) (laidNext (messageBytes m) (now (out .entry)) 0, laid (messageBytes m) (now (out .entry)) 0) ⌝ }
-{
-    match m {
-        Message::USetup {
-            address,
-            mode,
-            ask,
-            slots,
-        } => { // U-SETUP a d q, or with s behind them
-            if slots != 0 {
-                return put_u_setup_slots(address, mode, ask, slots, out);
-            }
-            if out.len() < 10 {
-                return 0;
-            }
-            put_head(out, 10, 0x0501);
-            put_long(out, 4, address);
-            out[8] = mode;
-            out[9] = ask;
-            10
-        }
-        Message::UConnect { id } => { // U-CONNECT i
-            if out.len() < 6 {
-                return 0;
-            }
-            put_head(out, 6, 0x0502);
-            put_word(out, 4, id);
-            6
-        }
-        Message::UDisconnect { id, cause } => { // U-DISCONNECT i c
-            if out.len() < 7 {
-                return 0;
-            }
-            put_head(out, 7, 0x0503);
-            put_word(out, 4, id);
-            out[6] = cause;
-            7
-        }
-        Message::URelease { id } => { // U-RELEASE i
-            if out.len() < 6 {
-                return 0;
-            }
-            put_head(out, 6, 0x0504);
-            put_word(out, 4, id);
-            6
-        }
-        Message::UInfo { id, mode } => { // U-INFO i d
-            if out.len() < 7 {
-                return 0;
-            }
-            put_head(out, 7, 0x0505);
-            put_word(out, 4, id);
-            out[6] = mode;
-            7
-        }
-        Message::UTxDemand { id } => { // U-TX DEMAND i
-            if out.len() < 6 {
-                return 0;
-            }
-            put_head(out, 6, 0x0506);
-            put_word(out, 4, id);
-            6
-        }
-        Message::UTxCeased { id } => { // U-TX CEASED i
-            if out.len() < 6 {
-                return 0;
-            }
-            put_head(out, 6, 0x0507);
-            put_word(out, 4, id);
-            6
-        }
-        Message::UCallRestore { id, address, ask } => { // U-CALL RESTORE i a q
-            if out.len() < 11 {
-                return 0;
-            }
-            put_head(out, 11, 0x0508);
-            put_word(out, 4, id);
-            put_long(out, 6, address);
-            out[10] = ask;
-            11
-        }
-        Message::Stop { timer } => { // STOP n
-            if out.len() < 6 {
-                return 0;
-            }
-            put_head(out, 6, 0x0601);
-            put_word(out, 4, timer);
-            6
-        }
-        Message::Start { timer, code } => { // START n o
-            if out.len() < 7 {
-                return 0;
-            }
-            put_head(out, 7, 0x0602);
-            put_word(out, 4, timer);
-            out[6] = code;
-            7
-        }
-        Message::Configure { plane } => { // CONFIGURE p
-            if out.len() < 5 {
-                return 0;
-            }
-            put_head(out, 5, 0x0603);
-            out[4] = plane;
-            5
-        }
-        Message::Cancel => { // CANCEL
-            if out.len() < 4 {
-                return 0;
-            }
-            put_head(out, 4, 0x0604);
-            4
-        }
-        Message::Place { at } => { // PLACE y
-            if out.len() < 5 {
-                return 0;
-            }
-            put_head(out, 5, 0x0605);
-            out[4] = at;
-            5
-        }
-        Message::ChannelAnswer { number, verdict } => { // CHANNEL ANSWER u v
-            if out.len() < 7 {
-                return 0;
-            }
-            put_head(out, 7, 0x0606);
-            put_word(out, 4, number);
-            out[6] = verdict;
-            7
-        }
-        Message::SetupIndication { id, address, mode } => { // SETUP indication i a d
-            if out.len() < 11 {
-                return 0;
-            }
-            put_head(out, 11, 0x0701);
-            put_word(out, 4, id);
-            put_long(out, 6, address);
-            out[10] = mode;
-            11
-        }
-        Message::SetupConfirm { id, grant } => { // SETUP confirm i g
-            if out.len() < 7 {
-                return 0;
-            }
-            put_head(out, 7, 0x0702);
-            put_word(out, 4, id);
-            out[6] = grant;
-            7
-        }
-        Message::Proceed => { // PROCEED
-            if out.len() < 4 {
-                return 0;
-            }
-            put_head(out, 4, 0x0703);
-            4
-        }
-        Message::Alert => { // ALERT
-            if out.len() < 4 {
-                return 0;
-            }
-            put_head(out, 4, 0x0704);
-            4
-        }
-        Message::Complete { grant } => { // COMPLETE g
-            if out.len() < 5 {
-                return 0;
-            }
-            put_head(out, 5, 0x0705);
-            out[4] = grant;
-            5
-        }
-        Message::ReleaseIndication { cause } => { // RELEASE indication c
-            if out.len() < 5 {
-                return 0;
-            }
-            put_head(out, 5, 0x0706);
-            out[4] = cause;
-            5
-        }
-        Message::ReleaseConfirm => { // RELEASE confirm
-            if out.len() < 4 {
-                return 0;
-            }
-            put_head(out, 4, 0x0707);
-            4
-        }
-        Message::TxIndication { told } => { // TX indication x
-            if out.len() < 5 {
-                return 0;
-            }
-            put_head(out, 5, 0x0708);
-            out[4] = told;
-            5
-        }
-        Message::ModifyIndication { mode, slots } => { // MODIFY indication d s
-            if out.len() < 6 {
-                return 0;
-            }
-            put_head(out, 6, 0x0709);
-            out[4] = mode;
-            out[5] = slots;
-            6
-        }
-    }
-}
-
 // Whether every field is in its letter's range, and START's code is right for its timer.
 fn message_fits(m: Message) -> bool
     ensures { λ r. ⌜ r ≡ fine messages m ⌝ }
@@ -703,6 +500,59 @@ fn message_fits(m: Message) -> bool
     }
 }
 
+// Stores a message's bytes from a position on where they fit, whatever its values, and answers the position after them.
+pub fn lay_message(m: Message, buffer: &mut [u8], at: usize) -> usize
+    ensures { λ r. ⌜ _≡_ {A = ℕ × List ℕ} (r, now (buffer .exit)) (laidNext (messageBytes m) (now (buffer .entry)) at, laid (messageBytes m) (now (buffer .entry)) at) ⌝ }
+{
+    match m {
+        Message::USetup {
+            address,
+            mode,
+            ask,
+            slots,
+        } => lay_u_setup(address, mode, ask, slots, buffer, at),
+        Message::UConnect { id } => lay_u_connect(id, buffer, at),
+        Message::UDisconnect { id, cause } => lay_u_disconnect(id, cause, buffer, at),
+        Message::URelease { id } => lay_u_release(id, buffer, at),
+        Message::UInfo { id, mode } => lay_u_info(id, mode, buffer, at),
+        Message::UTxDemand { id } => lay_u_tx_demand(id, buffer, at),
+        Message::UTxCeased { id } => lay_u_tx_ceased(id, buffer, at),
+        Message::UCallRestore { id, address, ask } => lay_u_call_restore(
+            id,
+            address,
+            ask,
+            buffer,
+            at,
+        ),
+        Message::Stop { timer } => lay_stop(timer, buffer, at),
+        Message::Start { timer, code } => lay_start(timer, code, buffer, at),
+        Message::Configure { plane } => lay_configure(plane, buffer, at),
+        Message::Cancel => lay_cancel(buffer, at),
+        Message::Place { at: place } => lay_place(place, buffer, at),
+        Message::ChannelAnswer { number, verdict } => lay_channel_answer(
+            number,
+            verdict,
+            buffer,
+            at,
+        ),
+        Message::SetupIndication { id, address, mode } => lay_setup_indication(
+            id,
+            address,
+            mode,
+            buffer,
+            at,
+        ),
+        Message::SetupConfirm { id, grant } => lay_setup_confirm(id, grant, buffer, at),
+        Message::Proceed => lay_proceed(buffer, at),
+        Message::Alert => lay_alert(buffer, at),
+        Message::Complete { grant } => lay_complete(grant, buffer, at),
+        Message::ReleaseIndication { cause } => lay_release_indication(cause, buffer, at),
+        Message::ReleaseConfirm => lay_release_confirm(buffer, at),
+        Message::TxIndication { told } => lay_tx_indication(told, buffer, at),
+        Message::ModifyIndication { mode, slots } => lay_modify_indication(mode, slots, buffer, at),
+    }
+}
+
 // Stores the message's bytes at the front of a lent buffer.
 pub fn write_message(m: Message, buffer: &mut [u8]) -> Written
     ensures { λ r. ⌜ _≡_ {A = Wrote × List ℕ} (asWrote r, now (buffer .exit)) (write messages m (now (buffer .entry))) ⌝ }
@@ -710,7 +560,7 @@ pub fn write_message(m: Message, buffer: &mut [u8]) -> Written
     if !message_fits(m) {
         return Written::BadField;
     }
-    let size = put_message(m, buffer);
+    let size = lay_message(m, buffer, 0);
     if size == 0 {
         return Written::NoRoom;
     }
@@ -767,14 +617,4 @@ pub fn message_size(m: Message) -> usize
             verdict: _,
         } => 7, // CHANNEL ANSWER u v
     }
-}
-
-// Stores a message's bytes from a position on where they fit, whatever its values, and answers the position after them.
-pub fn lay_message(m: Message, buffer: &mut [u8], at: usize) -> usize
-    ensures { λ r. ⌜ _≡_ {A = ℕ × List ℕ} (r, now (buffer .exit)) (laidNext (messageBytes m) (now (buffer .entry)) at, laid (messageBytes m) (now (buffer .entry)) at) ⌝ }
-{
-    if buffer.len() < at {
-        return at;
-    }
-    at + put_message(m, &mut buffer[at..])
 }

@@ -1,10 +1,5 @@
--- The part of the buffer from the position on is where the message is stored.
-use Prim.Native.Nat.{_+_, _≤_}
-use native.Mathlib.Omega.{arith}
+-- Each arm is the function of its message.
 use borrow.Author.Needs.{needs}
-use lib.ListN.{length}
-use Rattle.records.specs.Messages.{messageBytes}
-use Rattle.records.proofs.Writing.{too-far, part-laid, part-end}
 use Rattle.records.proofs.messages.lay_message.Statement.{statement}
 use Rattle.records.proofs.messages.lay_message.Tie as tie
 
@@ -12,14 +7,49 @@ pub lay-message-spec : {M : Type 1} → statement M
 lay-message-spec =
     tie.close
     (tie.spec
-    (λ c. too-far _ _ _ (c .if1 .taken))
-    (λ c. search needs)
-    (λ c. search needs)
-    (λ c. search needs)
-    (λ c κs. search needs)
-    (λ c.
-    let a = c .before .before .before .before .before .before .args in
-    let e : a .at + c .before .before .put-message .result ≤ length (a .buffer .now) = part-end (messageBytes (a .m)) (a .buffer .now) (a .at) (c .before .before .before .before .if1 .left) (c .before .before .put-message .ensures) in
-    omega arith)
-    (λ c. search needs)
-    (λ c. let a = c .before .before .before .before .before .before .args in part-laid (messageBytes (a .m)) (a .buffer .now) (a .at) (c .before .before .before .before .if1 .left) (c .before .before .put-message .ensures)))
+    (λ c. search needs) (λ c κs. search needs)
+    (λ c. search needs) (λ c κs. search needs)
+    (λ c. search needs) (λ c κs. search needs)
+    (λ c. search needs) (λ c κs. search needs)
+    (λ c. search needs) (λ c κs. search needs)
+    (λ c. search needs) (λ c κs. search needs)
+    (λ c. search needs) (λ c κs. search needs)
+    (λ c. search needs) (λ c κs. search needs)
+    (λ c. search needs) (λ c κs. search needs)
+    (λ c. search needs) (λ c κs. search needs)
+    (λ c. search needs) (λ c κs. search needs)
+    (λ c. search needs) (λ c κs. search needs)
+    (λ c. search needs) (λ c κs. search needs)
+    (λ c. search needs) (λ c κs. search needs)
+    (λ c. search needs) (λ c κs. search needs)
+    (λ c. search needs) (λ c κs. search needs)
+    (λ c. search needs) (λ c κs. search needs)
+    (λ c. search needs) (λ c κs. search needs)
+    (λ c. search needs) (λ c κs. search needs)
+    (λ c. search needs) (λ c κs. search needs)
+    (λ c. search needs) (λ c κs. search needs)
+    (λ c. search needs) (λ c κs. search needs)
+    (λ c. search needs) (λ c κs. search needs)
+    (λ c. search needs) (λ c. rw (c .before .before .before .before .before .m .given .1) (c .before .before .lay-u-setup .ensures))
+    (λ c. search needs) (λ c. rw (c .before .before .before .before .before .m2 .given .1) (c .before .before .lay-u-connect .ensures))
+    (λ c. search needs) (λ c. rw (c .before .before .before .before .before .m3 .given .1) (c .before .before .lay-u-disconnect .ensures))
+    (λ c. search needs) (λ c. rw (c .before .before .before .before .before .m4 .given .1) (c .before .before .lay-u-release .ensures))
+    (λ c. search needs) (λ c. rw (c .before .before .before .before .before .m5 .given .1) (c .before .before .lay-u-info .ensures))
+    (λ c. search needs) (λ c. rw (c .before .before .before .before .before .m6 .given .1) (c .before .before .lay-u-tx-demand .ensures))
+    (λ c. search needs) (λ c. rw (c .before .before .before .before .before .m7 .given .1) (c .before .before .lay-u-tx-ceased .ensures))
+    (λ c. search needs) (λ c. rw (c .before .before .before .before .before .m8 .given .1) (c .before .before .lay-u-call-restore .ensures))
+    (λ c. search needs) (λ c. rw (c .before .before .before .before .before .m9 .given .1) (c .before .before .lay-stop .ensures))
+    (λ c. search needs) (λ c. rw (c .before .before .before .before .before .m10 .given .1) (c .before .before .lay-start .ensures))
+    (λ c. search needs) (λ c. rw (c .before .before .before .before .before .m11 .given .1) (c .before .before .lay-configure .ensures))
+    (λ c. search needs) (λ c. rw (c .before .before .before .before .enum-told .given .1) (c .before .before .lay-cancel .ensures))
+    (λ c. search needs) (λ c. rw (c .before .before .before .before .before .m12 .given .1) (c .before .before .lay-place .ensures))
+    (λ c. search needs) (λ c. rw (c .before .before .before .before .before .m13 .given .1) (c .before .before .lay-channel-answer .ensures))
+    (λ c. search needs) (λ c. rw (c .before .before .before .before .before .m14 .given .1) (c .before .before .lay-setup-indication .ensures))
+    (λ c. search needs) (λ c. rw (c .before .before .before .before .before .m15 .given .1) (c .before .before .lay-setup-confirm .ensures))
+    (λ c. search needs) (λ c. rw (c .before .before .before .before .enum-told2 .given .1) (c .before .before .lay-proceed .ensures))
+    (λ c. search needs) (λ c. rw (c .before .before .before .before .enum-told3 .given .1) (c .before .before .lay-alert .ensures))
+    (λ c. search needs) (λ c. rw (c .before .before .before .before .before .m16 .given .1) (c .before .before .lay-complete .ensures))
+    (λ c. search needs) (λ c. rw (c .before .before .before .before .before .m17 .given .1) (c .before .before .lay-release-indication .ensures))
+    (λ c. search needs) (λ c. rw (c .before .before .before .before .enum-told4 .given .1) (c .before .before .lay-release-confirm .ensures))
+    (λ c. search needs) (λ c. rw (c .before .before .before .before .before .m18 .given .1) (c .before .before .lay-tx-indication .ensures))
+    (λ c. search needs) (λ c. rw (c .before .before .before .before .before .m19 .given .1) (c .before .before .lay-modify-indication .ensures)))

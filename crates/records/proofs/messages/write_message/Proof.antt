@@ -14,6 +14,6 @@ write-message-spec =
     (λ c. untested messages _ _ (c .before .message-fits .ensures) (c .if1 .taken))
     (λ c κs. search needs)
     (λ c. search needs)
-    (λ c. let p = c .before .before .before in let t = p .before .before in tested messages _ _ (t .before .message-fits .ensures) (t .if1 .left) (put-none _ _ (p .put-message .ensures) (bytes-some _) (c .if2 .taken)))
+    (λ c. let p = c .before .before .before in let t = p .before .before in tested messages _ _ (t .before .message-fits .ensures) (t .if1 .left) (put-none _ _ (p .lay-message .ensures) (bytes-some _) (c .if2 .taken)))
     (λ c. search needs)
-    (λ c. let p = c .before .before .before in let t = p .before .before in tested messages _ _ (t .before .message-fits .ensures) (t .if1 .left) (put-all _ _ (p .put-message .ensures) (bytes-some _) (c .if2 .left))))
+    (λ c. let p = c .before .before .before in let t = p .before .before in tested messages _ _ (t .before .message-fits .ensures) (t .if1 .left) (put-all _ _ (p .lay-message .ensures) (bytes-some _) (c .if2 .left))))
