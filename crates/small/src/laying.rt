@@ -11,13 +11,20 @@ ghost use Rattle.callcontrol.specs.Step.{carried, asOutcome};
 ghost use Rattle.small.specs.Entry.{STOP, widthOf, body, spell, spelled, entryBytes, entries};
 ghost use Rattle.small.specs.Places.{timerAt, placeBytes, placesFrom, numberOf, pduOf, ordered, tellsPlane, startsAt, stopsAt, ranAt, started, stopOf, runsOf, turned, turns, numberAfter, numberIn, codeOf, Alike};
 use callcontrol::call::Call;
+use callcontrol::call::T301;
+use callcontrol::call::T302;
+use callcontrol::call::T303;
+use callcontrol::call::T306;
+use callcontrol::call::T308;
 use callcontrol::call::T310;
 use callcontrol::call::T311;
 use callcontrol::row::CANCEL;
 use callcontrol::row::EXPIRED_301;
+use callcontrol::row::KEPT_PLANE;
 use callcontrol::row::OVER;
 use callcontrol::row::PLANE_1;
 use callcontrol::row::Row;
+use callcontrol::row::SAME_PLANE;
 use callcontrol::row::SETUP_INDICATION;
 use callcontrol::row::U_SETUP;
 use callcontrol::settle::next_by;
@@ -26,6 +33,8 @@ use callcontrol::step::Stepped;
 use callcontrol::step::refuse;
 
 // The letters of messages by number; 0 is none. TOLD is what the row tells: c, g, x, or the slots of a SETUP request.
+const NO_LETTER: u32 = 0;
+
 const I: u32 = 1;
 
 const A: u32 = 2;
@@ -55,81 +64,87 @@ const THIRD: u32 = 256;
 
 const FOURTH: u32 = 4096;
 
-// The paper's table of messages, without the first, which is none: the U-PDUs and the user primitives in the order of a row's digits; STOP, START, CONFIGURE and CANCEL; U-SETUP with slots.
-const MESSAGE_1: u32 = 0x501 * KIND + 10 * SIZE + A + D * SECOND + Q * THIRD;
+const IS_U_SETUP: u32 = 0x501 * KIND;
 
-const MESSAGE_2: u32 = 0x502 * KIND + 6 * SIZE + I;
+const IS_U_CONNECT: u32 = 0x502 * KIND;
 
-const MESSAGE_3: u32 = 0x503 * KIND + 7 * SIZE + I + TOLD * SECOND;
+const IS_U_DISCONNECT: u32 = 0x503 * KIND;
 
-const MESSAGE_4: u32 = 0x504 * KIND + 6 * SIZE + I;
+const IS_U_RELEASE: u32 = 0x504 * KIND;
 
-const MESSAGE_5: u32 = 0x506 * KIND + 6 * SIZE + I;
+const IS_U_TX_DEMAND: u32 = 0x506 * KIND;
 
-const MESSAGE_6: u32 = 0x507 * KIND + 6 * SIZE + I;
+const IS_U_TX_CEASED: u32 = 0x507 * KIND;
 
-const MESSAGE_7: u32 = 0x508 * KIND + 11 * SIZE + I + A * SECOND + Q * THIRD;
+const IS_U_CALL_RESTORE: u32 = 0x508 * KIND;
 
-const MESSAGE_8: u32 = 0x701 * KIND + 11 * SIZE + I + A * SECOND + D * THIRD;
+const IS_STOP: u32 = 0x601 * KIND;
 
-const MESSAGE_9: u32 = 0x702 * KIND + 7 * SIZE + I + TOLD * SECOND;
+const IS_START: u32 = 0x602 * KIND;
 
-const MESSAGE_10: u32 = 0x703 * KIND + 4 * SIZE;
+const IS_CONFIGURE: u32 = 0x603 * KIND;
 
-const MESSAGE_11: u32 = 0x704 * KIND + 4 * SIZE;
+const IS_CANCEL: u32 = 0x604 * KIND;
 
-const MESSAGE_12: u32 = 0x705 * KIND + 5 * SIZE + TOLD;
+const IS_SETUP_INDICATION: u32 = 0x701 * KIND;
 
-const MESSAGE_13: u32 = 0x706 * KIND + 5 * SIZE + TOLD;
+const IS_SETUP_CONFIRM: u32 = 0x702 * KIND;
 
-const MESSAGE_14: u32 = 0x707 * KIND + 4 * SIZE;
+const IS_PROCEED: u32 = 0x703 * KIND;
 
-const MESSAGE_15: u32 = 0x708 * KIND + 5 * SIZE + TOLD;
+const IS_ALERT: u32 = 0x704 * KIND;
 
-const MESSAGE_16: u32 = 0x709 * KIND + 6 * SIZE + D + S * SECOND;
+const IS_COMPLETE: u32 = 0x705 * KIND;
 
-const MESSAGE_17: u32 = 0x601 * KIND + 6 * SIZE + N;
+const IS_RELEASE_INDICATION: u32 = 0x706 * KIND;
 
-const MESSAGE_18: u32 = 0x602 * KIND + 7 * SIZE + N + O * SECOND;
+const IS_RELEASE_CONFIRM: u32 = 0x707 * KIND;
 
-const MESSAGE_19: u32 = 0x603 * KIND + 5 * SIZE + P;
+const IS_TX_INDICATION: u32 = 0x708 * KIND;
 
-const MESSAGE_20: u32 = 0x604 * KIND + 4 * SIZE;
+const IS_MODIFY_INDICATION: u32 = 0x709 * KIND;
 
-const MESSAGE_21: u32 = 0x501 * KIND + 11 * SIZE + A + D * SECOND + Q * THIRD + TOLD * FOURTH;
+const NO_MESSAGE: u32 = 0;
 
-// A message by its number, 0 for none. By a `match` the compiler makes one static table of them.
+// The paper's table of messages.
+const MESSAGES: [u32; 22] = [
+    NO_MESSAGE,
+    // The U-PDUs, in the order of a row's digits.
+    IS_U_SETUP + 10 * SIZE + A + D * SECOND + Q * THIRD,
+    IS_U_CONNECT + 6 * SIZE + I,
+    IS_U_DISCONNECT + 7 * SIZE + I + TOLD * SECOND,
+    IS_U_RELEASE + 6 * SIZE + I,
+    IS_U_TX_DEMAND + 6 * SIZE + I,
+    IS_U_TX_CEASED + 6 * SIZE + I,
+    IS_U_CALL_RESTORE + 11 * SIZE + I + A * SECOND + Q * THIRD,
+    // The user primitives, in the order of a row's digits.
+    IS_SETUP_INDICATION + 11 * SIZE + I + A * SECOND + D * THIRD,
+    IS_SETUP_CONFIRM + 7 * SIZE + I + TOLD * SECOND,
+    IS_PROCEED + 4 * SIZE,
+    IS_ALERT + 4 * SIZE,
+    IS_COMPLETE + 5 * SIZE + TOLD,
+    IS_RELEASE_INDICATION + 5 * SIZE + TOLD,
+    IS_RELEASE_CONFIRM + 4 * SIZE,
+    IS_TX_INDICATION + 5 * SIZE + TOLD,
+    IS_MODIFY_INDICATION + 6 * SIZE + D + S * SECOND,
+    // What a row's bits order.
+    IS_STOP + 6 * SIZE + N,
+    IS_START + 7 * SIZE + N + O * SECOND,
+    IS_CONFIGURE + 5 * SIZE + P,
+    IS_CANCEL + 4 * SIZE,
+    // U-SETUP with slots.
+    IS_U_SETUP + 11 * SIZE + A + D * SECOND + Q * THIRD + TOLD * FOURTH,
+];
+
+// A message by its number. The array is used in this function alone, so that the compiler makes one static table of it.
 fn message_at(n: usize) -> u32
+    requires { ⌜ n < 22 ⌝ }
     ensures { λ r. ⌜ r ≡ getD entries n 0 ⌝ }
 {
-    match n {
-        0 => 0,
-        1 => MESSAGE_1,
-        2 => MESSAGE_2,
-        3 => MESSAGE_3,
-        4 => MESSAGE_4,
-        5 => MESSAGE_5,
-        6 => MESSAGE_6,
-        7 => MESSAGE_7,
-        8 => MESSAGE_8,
-        9 => MESSAGE_9,
-        10 => MESSAGE_10,
-        11 => MESSAGE_11,
-        12 => MESSAGE_12,
-        13 => MESSAGE_13,
-        14 => MESSAGE_14,
-        15 => MESSAGE_15,
-        16 => MESSAGE_16,
-        17 => MESSAGE_17,
-        18 => MESSAGE_18,
-        19 => MESSAGE_19,
-        20 => MESSAGE_20,
-        21 => MESSAGE_21,
-        _ => 0,
-    }
+    MESSAGES[n]
 }
 
-// How many U-PDUs and user primitives there are, and the entries behind them.
+// How many U-PDUs and user primitives there are, and the numbers of the messages behind them.
 const U_PDUS: u64 = 7;
 
 const PRIMITIVES: u64 = 9;
@@ -144,10 +159,44 @@ const CANCELLING: usize = 20;
 
 const SETUP_WITH_SLOTS: u64 = 21;
 
+// The places of the order of writing: STOPs by rising number of the timer, CANCEL, U-PDU, STARTs, CONFIGURE, user primitive.
+const TIMERS: usize = 7;
+
+const PLACE_OF_CANCEL: usize = TIMERS;
+
+const PLACE_OF_U_PDU: usize = 8;
+
+const FIRST_START: usize = 9;
+
+const START_OF_T310: usize = FIRST_START + T310;
+
+const PLACE_OF_CONFIGURE: usize = FIRST_START + TIMERS;
+
+const PLACES: usize = 18;
+
+// Where the values of letters stand that a place gives: T310's code, which START takes; a timer's number; a START's code.
+const T310_CODE: usize = 0;
+
+const TIMER: usize = N as usize;
+
+const CODE: usize = O as usize;
+
 // The bits of a row's orders that stop T301 and start it; those of the other timers follow them.
 const STOPS: usize = 28;
 
 const STARTS: usize = 36;
+
+// Digits of a row's orders: no plane, the one that the call has, the one that it kept; and U-SETUP.
+const NO_PLANE: u64 = 0;
+
+const PRESENT: u64 = SAME_PLANE / PLANE_1;
+
+const KEPT: u64 = KEPT_PLANE / PLANE_1;
+
+const SETUP: u64 = U_SETUP / U_SETUP;
+
+// The plane on which the set transmits, and T311 runs.
+const SENDING: u8 = 1;
 
 fn store(out: &mut [u8], at: usize, b: u8)
     ensures { λ _. ⌜ now (out .exit) ≡ set (now (out .entry)) at b ⌝ }
@@ -173,15 +222,15 @@ fn put(out: &mut [u8], at: usize, v: u32, width: usize) -> usize
 }
 
 // How many bytes a letter takes.
-fn width_of(l: usize) -> usize
+fn width_of(l: u32) -> usize
     ensures { λ r. ⌜ r ≡ widthOf l ⌝ }
     ensures { λ r. ⌜ r ≤ 4 ⌝ }
 {
     match l {
-        0 => 0,
-        1 => 2,
-        2 => 4,
-        6 => 2,
+        NO_LETTER => 0,
+        I => 2,
+        A => 4,
+        N => 2,
         _ => 1,
     }
 }
@@ -191,13 +240,13 @@ fn timer_at(k: usize) -> u32
     ensures { λ r. ⌜ r ≡ timerAt k ⌝ }
 {
     match k {
-        0 => 301,
-        1 => 302,
-        2 => 303,
-        3 => 306,
-        4 => 308,
-        5 => 310,
-        6 => 311,
+        T301 => 301,
+        T302 => 302,
+        T303 => 303,
+        T306 => 306,
+        T308 => 308,
+        T310 => 310,
+        T311 => 311,
         _ => 0,
     }
 }
@@ -209,8 +258,9 @@ fn lay_body(letters: u32, v: &[u32; 10], out: &mut [u8], at: usize) -> usize
     let mut left = letters;
     let mut next = at;
     while left != 0 {
-        let l = (left % 16) as usize;
-        next = put(out, next, v[l], width_of(l));
+        let l = left % 16;
+        let place = l as usize;
+        next = put(out, next, v[place], width_of(l));
         left = left / 16;
     }
     next
@@ -228,7 +278,7 @@ fn lay_entry(entry: u32, v: &[u32; 10], out: &mut [u8], at: usize) -> usize
 fn code_at(k: usize, code: u32) -> u32
     ensures { λ r. ⌜ r ≡ cond (eqb k 14) code 0 ⌝ }
 {
-    if k == 14 { code } else { 0 }
+    if k == START_OF_T310 { code } else { 0 }
 }
 
 // The message at a place of the order of writing, by its number; 0 is none.
@@ -241,9 +291,9 @@ fn lay_place(k: usize, n: usize, v: &mut [u32; 10], out: &mut [u8], at: usize) -
     if n == 0 {
         return at;
     }
-    let code = code_at(k, v[0]);
-    v[6] = timer_at(k % 9);
-    v[7] = code;
+    let code = code_at(k, v[T310_CODE]);
+    v[TIMER] = timer_at(k % FIRST_START);
+    v[CODE] = code;
     lay_entry(message_at(n), v, out, at)
 }
 
@@ -260,7 +310,7 @@ fn tells_plane(n: u64) -> bool
     ensures { λ r. ⌜ r ≡ tellsPlane n ⌝ }
 {
     let p = n / PLANE_1 % 16;
-    (p != 0) & (p != 5)
+    (p != NO_PLANE) & (p != PRESENT)
 }
 
 // Whether a timer is started, where `bit` orders it: T310 only with a limit, T311 with plane 1.
@@ -268,7 +318,7 @@ fn starts_at(k: usize, bit: bool, code: u8, configure: u8, told: bool) -> bool
     ensures { λ r. ⌜ r ≡ startsAt k bit code configure told ⌝ }
 {
     if k == T311 {
-        return told & (configure == 1);
+        return told & (configure == SENDING);
     }
     if k == T310 {
         return bit & (code != 0);
@@ -319,18 +369,19 @@ fn number_at(k: usize, n: u64, code: u8, value: u8, configure: u8) -> usize
     ensures { λ r. ⌜ r ≡ numberAfter (started n code configure (k - 9)) n value configure k ⌝ }
     ensures { λ r. ⌜ r < 22 ⌝ }
 {
-    if k == 7 {
+    if k == PLACE_OF_CANCEL {
         return when(cancels(n), CANCELLING);
     }
-    if k == 8 {
+    if k == PLACE_OF_U_PDU {
         return pdu_of(n / U_SETUP % 16, value) as usize;
     }
-    if k < 16 {
+    if k < PLACE_OF_CONFIGURE {
         let told = tells_plane(n);
-        let start = starts_at(k - 9, ordered(n, STARTS + (k - 9)), code, configure, told);
+        let timer = k - FIRST_START;
+        let start = starts_at(timer, ordered(n, STARTS + timer), code, configure, told);
         return when(start, START);
     }
-    if k == 16 {
+    if k == PLACE_OF_CONFIGURE {
         return when(configure != 0, CONFIGURE);
     }
     number_of(n / SETUP_INDICATION % 16, PRIMITIVES, U_PDUS) as usize
@@ -350,7 +401,7 @@ fn number_for(
     ensures { λ r. ⌜ r < 22 ⌝ }
     ensures { λ _. ⌜ now (running .exit) ≡ turned n code configure k (now (running .entry)) ⌝ }
 {
-    if k < 7 {
+    if k < TIMERS {
         return turn(k, n, code, configure, running);
     }
     number_at(k, n, code, value, configure)
@@ -371,7 +422,7 @@ fn lay_all(
 {
     let mut at: usize = 0;
     let mut k: usize = 0;
-    while k < 18 {
+    while k < PLACES {
         let m = number_for(k, n, code, value, configure, running);
         at = lay_place(k, m, v, out, at);
         k = k + 1;
@@ -406,7 +457,7 @@ fn pdu_of(digit: u64, value: u8) -> u64
     ensures { λ r. ⌜ r ≡ pduOf digit value ⌝ }
     ensures { λ r. ⌜ r ≤ 21 ⌝ }
 {
-    if (digit == 1) & (value != 0) {
+    if (digit == SETUP) & (value != 0) {
         return SETUP_WITH_SLOTS;
     }
     number_of(digit, U_PDUS, 0)
@@ -430,10 +481,10 @@ fn configure_by(digit: u64, call: Call) -> u8
     requires { ⌜ digit < 16 ⌝ }
     ensures { λ r. ⌜ r ≡ configureBy digit call ⌝ }
 {
-    if digit == 5 {
+    if digit == PRESENT {
         return call.plane;
     }
-    if digit == 6 {
+    if digit == KEPT {
         return call.kept;
     }
     digit as u8

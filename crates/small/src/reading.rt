@@ -8,12 +8,19 @@ ghost use Rattle.records.specs.Tables.{read};
 ghost use Rattle.records.specs.Events.{events};
 ghost use Rattle.small.specs.Entry.{spell};
 ghost use Rattle.small.specs.Reading.{fill, total, caps, Under, asFilled, withSlots, oneMore, lettersFor, sizedWell, timerPlace, lateKind, flatBy, bodyBy, hintOf, kindBy, flatted, asFlatRead};
+use crate::flat::D_CALL_PROCEEDING;
 use crate::flat::EXPIRY;
 use crate::flat::EXPIRY_308;
 use crate::flat::EXPIRY_311;
 use crate::flat::Flat;
+use crate::flat::REPORT_SENT;
 use callcontrol::call::Call;
+use callcontrol::call::T301;
+use callcontrol::call::T302;
+use callcontrol::call::T303;
+use callcontrol::call::T306;
 use callcontrol::call::T308;
+use callcontrol::call::T310;
 use callcontrol::call::T311;
 use callcontrol::step::Answer;
 use records::bodies::Head;
@@ -70,36 +77,86 @@ const S_FIFTH: u32 = S * FIFTH;
 // MODIFY request, taken no more whatever its body.
 const RETIRED: u16 = 0x105;
 
-// No event has this kind.
-const NO_KIND: u32 = 0x7ff * KIND + 4 * SIZE;
+// The kinds by number.
+const IS_SETUP_REQUEST: u32 = 0x101 * KIND;
 
-// The paper's table of events, in its order.
+const IS_SETUP_RESPONSE: u32 = 0x102 * KIND;
+
+const IS_RELEASE_REQUEST: u32 = 0x103 * KIND;
+
+const IS_TX_REQUEST: u32 = 0x104 * KIND;
+
+const IS_D_CALL_PROCEEDING: u32 = 0x201 * KIND;
+
+const IS_D_ALERT: u32 = 0x202 * KIND;
+
+const IS_D_CONNECT: u32 = 0x203 * KIND;
+
+const IS_D_CONNECT_ACKNOWLEDGE: u32 = 0x204 * KIND;
+
+const IS_D_SETUP: u32 = 0x205 * KIND;
+
+const IS_D_INFO: u32 = 0x206 * KIND;
+
+const IS_D_TX_GRANTED: u32 = 0x207 * KIND;
+
+const IS_D_TX_CEASED: u32 = 0x208 * KIND;
+
+const IS_D_TX_INTERRUPT: u32 = 0x209 * KIND;
+
+const IS_D_TX_WAIT: u32 = 0x20a * KIND;
+
+const IS_D_TX_CONTINUE: u32 = 0x20b * KIND;
+
+const IS_D_CALL_RESTORE: u32 = 0x20c * KIND;
+
+const IS_D_DISCONNECT: u32 = 0x20d * KIND;
+
+const IS_D_RELEASE: u32 = 0x20e * KIND;
+
+const IS_REPORT_SENT: u32 = 0x301 * KIND;
+
+const IS_REPORT_FAILED: u32 = 0x302 * KIND;
+
+const IS_BREAK: u32 = 0x303 * KIND;
+
+const IS_RESUME: u32 = 0x304 * KIND;
+
+const IS_EXPIRY: u32 = 0x401 * KIND;
+
+// No event has this one.
+const NO_KIND: u32 = 0x7ff * KIND;
+
+// The paper's table of events, in its order: the first entry is no kind's, and behind it is one for each.
 const EVENTS: [u32; 24] = [
-    NO_KIND,
-    0x101 * KIND + 10 * SIZE + A1 + D * SECOND + Q * THIRD + OR_WITH_SLOTS,
-    0x102 * KIND + 4 * SIZE,
-    0x103 * KIND + 4 * SIZE,
-    0x104 * KIND + 5 * SIZE + K,
-    0x201 * KIND + 6 * SIZE + I,
-    0x202 * KIND + 6 * SIZE + I,
-    0x203 * KIND + 9 * SIZE + I + G * SECOND + D * THIRD + O * FOURTH + OR_WITH_SLOTS,
-    0x204 * KIND + 8 * SIZE + I + G * SECOND + O * THIRD,
-    0x205 * KIND + 11 * SIZE + I + A * SECOND + D * THIRD,
-    0x206 * KIND + 9 * SIZE + I + R * SECOND + O16 * THIRD + D * FOURTH + OR_WITH_SLOTS,
-    0x207 * KIND + 7 * SIZE + I + G * SECOND,
-    0x208 * KIND + 6 * SIZE + I,
-    0x209 * KIND + 7 * SIZE + I + G * SECOND,
-    0x20a * KIND + 6 * SIZE + I,
-    0x20b * KIND + 7 * SIZE + I + K * SECOND,
-    0x20c * KIND + 9 * SIZE + I + G * SECOND + R * THIRD + O16 * FOURTH,
-    0x20d * KIND + 6 * SIZE + I0,
-    0x20e * KIND + 6 * SIZE + I0,
-    0x301 * KIND + 4 * SIZE,
-    0x302 * KIND + 4 * SIZE,
-    0x303 * KIND + 4 * SIZE,
-    0x304 * KIND + 4 * SIZE,
-    0x401 * KIND + 6 * SIZE + N,
+    NO_KIND + 4 * SIZE,
+    IS_SETUP_REQUEST + 10 * SIZE + A1 + D * SECOND + Q * THIRD + OR_WITH_SLOTS,
+    IS_SETUP_RESPONSE + 4 * SIZE,
+    IS_RELEASE_REQUEST + 4 * SIZE,
+    IS_TX_REQUEST + 5 * SIZE + K,
+    IS_D_CALL_PROCEEDING + 6 * SIZE + I,
+    IS_D_ALERT + 6 * SIZE + I,
+    IS_D_CONNECT + 9 * SIZE + I + G * SECOND + D * THIRD + O * FOURTH + OR_WITH_SLOTS,
+    IS_D_CONNECT_ACKNOWLEDGE + 8 * SIZE + I + G * SECOND + O * THIRD,
+    IS_D_SETUP + 11 * SIZE + I + A * SECOND + D * THIRD,
+    IS_D_INFO + 9 * SIZE + I + R * SECOND + O16 * THIRD + D * FOURTH + OR_WITH_SLOTS,
+    IS_D_TX_GRANTED + 7 * SIZE + I + G * SECOND,
+    IS_D_TX_CEASED + 6 * SIZE + I,
+    IS_D_TX_INTERRUPT + 7 * SIZE + I + G * SECOND,
+    IS_D_TX_WAIT + 6 * SIZE + I,
+    IS_D_TX_CONTINUE + 7 * SIZE + I + K * SECOND,
+    IS_D_CALL_RESTORE + 9 * SIZE + I + G * SECOND + R * THIRD + O16 * FOURTH,
+    IS_D_DISCONNECT + 6 * SIZE + I0,
+    IS_D_RELEASE + 6 * SIZE + I0,
+    IS_REPORT_SENT + 4 * SIZE,
+    IS_REPORT_FAILED + 4 * SIZE,
+    IS_BREAK + 4 * SIZE,
+    IS_RESUME + 4 * SIZE,
+    IS_EXPIRY + 6 * SIZE + N,
 ];
+
+// The last of its entries.
+const LAST: usize = 23;
 
 // A letter: where its value goes, how many bytes it takes, and its least (0 or 1) and its most.
 const INTO: u32 = 0x10000000;
@@ -111,23 +168,41 @@ const FROM_0: u32 = 0;
 const FROM_1: u32 = 0x1000000;
 
 // The values of an event by place.
-const ID: u32 = 0;
+const ID: usize = 0;
 
-const ADDRESS: u32 = 1;
+const ADDRESS: usize = 1;
 
-const MODE: u32 = 2;
+const MODE: usize = 2;
 
-const ASK: u32 = 3;
+const ASK: usize = 3;
 
-const VALUE: u32 = 4;
+const VALUE: usize = 4;
 
-const RESET: u32 = 5;
+const RESET: usize = 5;
 
-const CODE: u32 = 6;
+const CODE: usize = 6;
 
-const TIMER: u32 = 7;
+const TIMER: usize = 7;
 
-const SLOTS: u32 = 8;
+const SLOTS: usize = 8;
+
+const INTO_ID: u32 = (ID as u32) * INTO;
+
+const INTO_ADDRESS: u32 = (ADDRESS as u32) * INTO;
+
+const INTO_MODE: u32 = (MODE as u32) * INTO;
+
+const INTO_ASK: u32 = (ASK as u32) * INTO;
+
+const INTO_VALUE: u32 = (VALUE as u32) * INTO;
+
+const INTO_RESET: u32 = (RESET as u32) * INTO;
+
+const INTO_CODE: u32 = (CODE as u32) * INTO;
+
+const INTO_TIMER: u32 = (TIMER as u32) * INTO;
+
+const INTO_SLOTS: u32 = (SLOTS as u32) * INTO;
 
 // No letter.
 const UNUSED: u32 = BYTES;
@@ -135,22 +210,44 @@ const UNUSED: u32 = BYTES;
 // The letters by number. Which numbers a timer may have is looked at when all are read.
 const LETTERS: [u32; 16] = [
     UNUSED,
-    ADDRESS * INTO + 4 * BYTES + FROM_1 + 16777215,
-    ADDRESS * INTO + 4 * BYTES + FROM_0 + 16777215,
-    ID * INTO + 2 * BYTES + FROM_1 + 16383,
-    ID * INTO + 2 * BYTES + FROM_0 + 16383,
-    TIMER * INTO + 2 * BYTES + FROM_0 + 65535,
-    MODE * INTO + BYTES + FROM_0 + 1,
-    ASK * INTO + BYTES + FROM_0 + 1,
-    ASK * INTO + BYTES + FROM_0 + 1,
-    VALUE * INTO + BYTES + FROM_0 + 3,
-    RESET * INTO + BYTES + FROM_0 + 1,
-    CODE * INTO + BYTES + FROM_0 + 15,
-    CODE * INTO + BYTES + FROM_0 + 16,
-    SLOTS * INTO + BYTES + FROM_1 + 4,
+    // a, first where it may not be 0.
+    INTO_ADDRESS + 4 * BYTES + FROM_1 + 16777215,
+    INTO_ADDRESS + 4 * BYTES + FROM_0 + 16777215,
+    // i, then where it may be 0; and n.
+    INTO_ID + 2 * BYTES + FROM_1 + 16383,
+    INTO_ID + 2 * BYTES + FROM_0 + 16383,
+    INTO_TIMER + 2 * BYTES + FROM_0 + 65535,
+    // d, q, k, g and r.
+    INTO_MODE + BYTES + FROM_0 + 1,
+    INTO_ASK + BYTES + FROM_0 + 1,
+    INTO_ASK + BYTES + FROM_0 + 1,
+    INTO_VALUE + BYTES + FROM_0 + 3,
+    INTO_RESET + BYTES + FROM_0 + 1,
+    // o, then where it may be 16; and s.
+    INTO_CODE + BYTES + FROM_0 + 15,
+    INTO_CODE + BYTES + FROM_0 + 16,
+    INTO_SLOTS + BYTES + FROM_1 + 4,
     UNUSED,
     UNUSED,
 ];
+
+// The families of kinds behind the user's, and the number of the first event of each.
+const NETWORK: u16 = 2;
+
+const LINK: u16 = 3;
+
+const TIMERS: u16 = 4;
+
+const FIRST_OF_NETWORK: usize = D_CALL_PROCEEDING as usize;
+
+const FIRST_OF_LINK: usize = REPORT_SENT as usize;
+
+const FIRST_OF_TIMERS: usize = EXPIRY as usize;
+
+// What stands for a timer in an event that brings none, and the place of a number that is no timer's.
+const SOME_TIMER: u32 = 301;
+
+const NO_TIMER: usize = 7;
 
 pub enum FlatRead {
     Is(Flat),
@@ -163,9 +260,9 @@ fn hint(family: u16) -> usize
     ensures { λ r. ⌜ r ≤ 22 ⌝ }
 {
     match family {
-        2 => 4,
-        3 => 18,
-        4 => 22,
+        NETWORK => FIRST_OF_NETWORK,
+        LINK => FIRST_OF_LINK,
+        TIMERS => FIRST_OF_TIMERS,
         _ => 0,
     }
 }
@@ -223,14 +320,14 @@ fn timer_place(n: u32) -> usize
     ensures { λ r. ⌜ r ≡ timerPlace n ⌝ }
 {
     match n {
-        301 => 0,
-        302 => 1,
-        303 => 2,
-        306 => 3,
-        308 => 4,
-        310 => 5,
-        311 => 6,
-        _ => 7,
+        301 => T301,
+        302 => T302,
+        303 => T303,
+        306 => T306,
+        308 => T308,
+        310 => T310,
+        311 => T311,
+        _ => NO_TIMER,
     }
 }
 
@@ -253,14 +350,14 @@ fn flat_by(kind: u64, timer: usize, v: &[u32; 9]) -> Flat
 {
     Flat {
         kind,
-        address: v[1],
-        id: v[0] as u16,
-        mode: v[2] as u8,
-        ask: v[3] as u8,
-        value: v[4] as u8,
-        reset: v[5] as u8,
-        code: v[6] as u8,
-        slots: v[8] as u8,
+        address: v[ADDRESS],
+        id: v[ID] as u16,
+        mode: v[MODE] as u8,
+        ask: v[ASK] as u8,
+        value: v[VALUE] as u8,
+        reset: v[RESET] as u8,
+        code: v[CODE] as u8,
+        slots: v[SLOTS] as u8,
         timer,
     }
 }
@@ -315,15 +412,15 @@ fn read_body(entry: u32, kind: u64, call: Call, s: &[u8]) -> FlatRead
         0,
         0,
         call.code as u32,
-        301,
+        SOME_TIMER,
         0,
     ];
     let wrong = fill(letters, &mut v, s);
     if wrong != 0 {
         return FlatRead::Refused(Answer::BadBody, wrong);
     }
-    let timer = timer_place(v[7]);
-    if timer == 7 {
+    let timer = timer_place(v[TIMER]);
+    if timer == NO_TIMER {
         return FlatRead::Refused(Answer::BadBody, 4);
     }
     if kind == EXPIRY {
@@ -339,7 +436,7 @@ fn read_kind(n: u16, call: Call, s: &[u8]) -> FlatRead
         return FlatRead::Refused(Answer::Retired, 0);
     }
     let place = hint(n / 256 % 8) + (n % 256) as usize;
-    if 23 < place {
+    if LAST < place {
         return FlatRead::Refused(Answer::UnknownKind, 0);
     }
     let entry = EVENTS[place];

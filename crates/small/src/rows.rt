@@ -11,6 +11,7 @@ use crate::flat::D_INFO;
 use crate::flat::D_TX_INTERRUPT;
 use crate::flat::EXPIRY;
 use crate::flat::Flat;
+use crate::table::AFTER_G;
 use crate::table::ASKED;
 use crate::table::AT_BROKEN;
 use crate::table::AT_DISCONNECT;
@@ -20,7 +21,18 @@ use crate::table::AT_MT;
 use crate::table::AT_RESTORING;
 use crate::table::AT_UP;
 use crate::table::AT_WAIT;
+use crate::table::COUNT;
+use crate::table::EVENTS_G;
+use crate::table::EVENTS_SLOTS;
+use crate::table::GIVEN;
+use crate::table::GRANTED;
+use crate::table::GRANTED_OR_OFF;
 use crate::table::IF;
+use crate::table::IF_TALKING;
+use crate::table::KINDS;
+use crate::table::NEEDED;
+use crate::table::NOT_ASKED;
+use crate::table::NOW_ASKED;
 use crate::table::ON;
 use crate::table::STORE_A_D;
 use crate::table::STORE_I;
@@ -31,8 +43,11 @@ use callcontrol::call::Path;
 use callcontrol::call::State;
 use callcontrol::call::T301;
 use callcontrol::row::EXPIRED_301;
+use callcontrol::row::PLANE_1;
 use callcontrol::row::Row;
 use callcontrol::row::START_310;
+use callcontrol::row::STOP_301;
+use callcontrol::row::U_SETUP;
 use callcontrol::rows::asked_after;
 use callcontrol::rows::asked_after_cut;
 use callcontrol::rows::asks;
@@ -68,7 +83,7 @@ fn fits(row: u64, situation: u64, kind: u64, facts: &[bool; 8]) -> bool
     requires { ⌜ 0 < situation ⌝ }
     ensures { λ r. ⌜ r ≡ fits situation kind (now (facts .entry)) row ⌝ }
 {
-    if row / ON % 32 == kind {
+    if row / ON % KINDS == kind {
         if row / situation % 2 == 1 {
             let guard = (row / IF) as usize;
             return facts[guard];
@@ -82,8 +97,8 @@ pub fn found(situation: u64, kind: u64, facts: &[bool; 8]) -> u64
     requires { ⌜ 0 < situation ⌝ }
     ensures { λ r. ⌜ r ≡ firstOf situation kind (now (facts .entry)) rows ⌝ }
 {
-    let mut k = kind;
-    while k < 38 {
+    let mut k = kind as usize;
+    while k < COUNT {
         let row = row_at(k);
         if fits(row, situation, kind, facts) {
             return row;
@@ -147,43 +162,43 @@ fn facts(call: Call, e: Flat) -> [bool; 8]
 
 // What a row says.
 
-// 7 is rule G, 8 the same with off for 1 and 2; every other digit is a plane of row.rt.
+// By rule G, the same with off for 1 and 2, or the digit of a plane of row.rt.
 fn plane_by(p: u64, grant: u8, mode: u8) -> u64
     requires { ⌜ p < 16 ⌝ }
     ensures { λ r. ⌜ r ≡ planeBy p grant mode ⌝ }
     ensures { λ r. ⌜ r ≤ 0xF000 ⌝ }
 {
-    if p == 7 {
+    if p == GRANTED {
         return plane_granted(grant, mode);
     }
-    if p == 8 {
+    if p == GRANTED_OR_OFF {
         return plane_or_off(grant, mode);
     }
-    p * 0x1000
+    p * PLANE_1
 }
 
 fn asked_by(a: u64, call: Call, e: Flat) -> u8
     ensures { λ r. ⌜ r ≡ askedBy a call e ⌝ }
 {
     match a {
-        1 => e.ask,
-        2 => 0,
-        3 => asked_after(e.value, call.asked),
-        4 => asks(call),
-        5 => asked_after_cut(call),
-        6 => 1,
+        GIVEN => e.ask,
+        NOT_ASKED => 0,
+        AFTER_G => asked_after(e.value, call.asked),
+        NEEDED => asks(call),
+        IF_TALKING => asked_after_cut(call),
+        NOW_ASKED => 1,
         _ => call.asked,
     }
 }
 
-// 9 is the event's g, 10 its slots; below that the number itself.
+// The event's g, its slots, or the number itself.
 fn value_by(v: u8, e: Flat) -> u8
     ensures { λ r. ⌜ r ≡ valueBy v e ⌝ }
 {
-    if v == 9 {
+    if v == EVENTS_G {
         return e.value;
     }
-    if v == 10 {
+    if v == EVENTS_SLOTS {
         return e.slots;
     }
     v
@@ -236,14 +251,19 @@ fn id_by(n: u64, call: Call, e: Flat) -> u16
     if n / STORE_I % 2 == 1 { e.id } else { call.id }
 }
 
+// Of a row from U-PDU on, what is below asked: the messages; of a row from T301's STOP on, what is below what is stored: the timers.
+const MESSAGES: u64 = ASKED / U_SETUP;
+
+const TIMERS: u64 = STORE_I / STOP_301;
+
 // The orders of row.rt are taken as they are, but for the digits of plane and asked.
 fn orders_by(n: u64, call: Call, e: Flat) -> u64
     requires { ⌜ e .timer < 7 ⌝ }
     ensures { λ r. ⌜ r ≡ ordersBy n call e ⌝ }
 {
     expired_by(e)
-        + (n % 0x1000 + n / 0x10000 % 0x200 * 0x10000 + n / 0x10000000 % 0x4000 * 0x10000000)
-        + plane_by(n / 0x1000 % 16, e.value, mode_by(n, call, e))
+        + (n % PLANE_1 + n / U_SETUP % MESSAGES * U_SETUP + n / STOP_301 % TIMERS * STOP_301)
+        + plane_by(n / PLANE_1 % 16, e.value, mode_by(n, call, e))
         + restarting(e.reset)
 }
 

@@ -3,6 +3,7 @@
 // first row that fits is taken, so a row with a condition stands before the one without. What the event alone says is in no row: which
 // timer expired, whether T310 starts anew (r of D-INFO and D-CALL RESTORE), and the slots, which are stored where it brings some.
 ghost use mathlib.Core.Path.{_≡_};
+ghost use Prim.Native.Nat.{_<_};
 ghost use lib.ListN.{getD};
 ghost use Rattle.small.specs.Table.{rows};
 use crate::flat::BREAK;
@@ -42,6 +43,7 @@ use callcontrol::row::MO_CALL_SETUP;
 use callcontrol::row::MODIFY_INDICATION;
 use callcontrol::row::MT_CALL_SETUP;
 use callcontrol::row::OVER;
+use callcontrol::row::PLANE_1;
 use callcontrol::row::PLANE_2;
 use callcontrol::row::PLANE_OFF;
 use callcontrol::row::PROCEED;
@@ -93,7 +95,9 @@ pub const AT_DISCONNECT: u64 = 0x80000000000000;
 // Every state but IDLE and CALL-DISCONNECT, on every path.
 pub const AT_CALL: u64 = AT_MO + AT_MT + AT_UP + AT_BROKEN + AT_RESTORING + AT_WAIT;
 
-// The event, by its number. Bits 56 to 60.
+// The event, by its number. Bits 56 to 60, so there may be as many as KINDS.
+pub const KINDS: u64 = 32;
+
 pub const ON: u64 = 0x100000000000000;
 
 pub const ON_SETUP_REQUEST: u64 = SETUP_REQUEST * ON;
@@ -175,27 +179,47 @@ pub const STORE_I: u64 = 0x40000000000;
 
 pub const STORE_A_D: u64 = 0x80000000000;
 
-// What asked becomes: q or k of the event; 0; by rule G; whether a restored call is to ask; 1 where the set talked; 1. Bits 25 to 27.
+// What asked becomes, by a rule: q or k of the event; 0; by rule G; whether a restored call is to ask; 1 where the set talked; 1. Bits 25 to 27.
+pub const GIVEN: u64 = 1;
+
+pub const NOT_ASKED: u64 = 2;
+
+pub const AFTER_G: u64 = 3;
+
+pub const NEEDED: u64 = 4;
+
+pub const IF_TALKING: u64 = 5;
+
+pub const NOW_ASKED: u64 = 6;
+
 pub const ASKED: u64 = 0x2000000;
 
-pub const ASKED_GIVEN: u64 = ASKED;
+pub const ASKED_GIVEN: u64 = GIVEN * ASKED;
 
-pub const ASKED_0: u64 = 2 * ASKED;
+pub const ASKED_0: u64 = NOT_ASKED * ASKED;
 
-pub const ASKED_BY_G: u64 = 3 * ASKED;
+pub const ASKED_BY_G: u64 = AFTER_G * ASKED;
 
-pub const ASKED_NEEDED: u64 = 4 * ASKED;
+pub const ASKED_NEEDED: u64 = NEEDED * ASKED;
 
-pub const ASKED_IF_TALKING: u64 = 5 * ASKED;
+pub const ASKED_IF_TALKING: u64 = IF_TALKING * ASKED;
 
-pub const ASKED_1: u64 = 6 * ASKED;
+pub const ASKED_1: u64 = NOW_ASKED * ASKED;
 
 // The plane by rule G, and with off for 1 and 2: two more digits beside row.rt's planes. Bits 12 to 15.
-pub const BY_G: u64 = 0x7000;
+pub const GRANTED: u64 = 7;
 
-pub const BY_G_OR_OFF: u64 = 0x8000;
+pub const GRANTED_OR_OFF: u64 = 8;
+
+pub const BY_G: u64 = GRANTED * PLANE_1;
+
+pub const BY_G_OR_OFF: u64 = GRANTED_OR_OFF * PLANE_1;
 
 // What a message tells: a cause c, how a transmission stands x, the event's g, its slots. Bits 44 to 47.
+pub const EVENTS_G: u8 = 9;
+
+pub const EVENTS_SLOTS: u8 = 10;
+
 pub const TOLD: u64 = 0x100000000000;
 
 pub const C_1: u64 = TOLD;
@@ -216,220 +240,99 @@ pub const X_7: u64 = 7 * TOLD;
 
 pub const X_8: u64 = 8 * TOLD;
 
-pub const TELL_G: u64 = 9 * TOLD;
+pub const TELL_G: u64 = (EVENTS_G as u64) * TOLD;
 
-pub const TELL_S: u64 = 10 * TOLD;
+pub const TELL_S: u64 = (EVENTS_SLOTS as u64) * TOLD;
+
+// How many rows there are.
+pub const COUNT: usize = 38;
 
 // The rows, in the order of the events. Each event has a row, so its first one is not before the place of its own number.
+const ROWS: [u64; COUNT] = [
+    // User events.
+    AT_IDLE
+        + ON_SETUP_REQUEST
+        + MO_CALL_SETUP
+        + STORE_A_D
+        + ASKED_GIVEN
+        + U_SETUP
+        + TELL_S
+        + START_303,
+    AT_MT + ON_SETUP_RESPONSE + IF_T301_STOPPED + STAY + U_CONNECT + START_301,
+    AT_MO + ON_RELEASE_REQUEST + IF_UNSENT + CANCEL + STOP_303 + RELEASE_CONFIRM + OVER,
+    AT_CALL + ON_RELEASE_REQUEST + RELEASE + ASKED_0 + C_1,
+    AT_UP + ON_TX_REQUEST + IF_DEMAND + STAY + U_TX_DEMAND + ASKED_1,
+    AT_UP + ON_TX_REQUEST + IF_CEASE_IN_PLANE_1 + STAY + U_TX_CEASED + PLANE_OFF,
+    AT_UP + ON_TX_REQUEST + IF_CEASE_ASKED + STAY + U_TX_CEASED + ASKED_0,
+    AT_BROKEN + ON_TX_REQUEST + IF_CHANGES_ASKED + STAY + ASKED_GIVEN,
+    // Network events, in the order of a call.
+    AT_MO + ON_D_CALL_PROCEEDING + STAY + STORE_I + SENT + STOP_303 + START_302 + PROCEED,
+    AT_MO + ON_D_ALERT + STAY + STORE_I + SENT + STOP_303 + START_302 + ALERT,
+    AT_MO
+        + ON_D_CONNECT
+        + CALL_ACTIVE
+        + STORE_I
+        + STORE_A_D
+        + SENT
+        + STOP_302
+        + STOP_303
+        + START_310
+        + BY_G_OR_OFF
+        + ASKED_BY_G
+        + SETUP_CONFIRM
+        + TELL_G,
+    AT_MT
+        + ON_D_CONNECT_ACKNOWLEDGE
+        + IF_T301_RUNS
+        + CALL_ACTIVE
+        + STOP_301
+        + START_310
+        + BY_G_OR_OFF
+        + ASKED_BY_G
+        + COMPLETE
+        + TELL_G,
+    AT_IDLE + ON_D_SETUP + MT_CALL_SETUP + STORE_I + STORE_A_D + SETUP_INDICATION,
+    AT_UP + ON_D_INFO + IF_SAME_D + STAY + STORE_A_D + SAME_PLANE + MODIFY_INDICATION,
+    AT_UP + ON_D_INFO + STAY + STORE_A_D + PLANE_OFF + MODIFY_INDICATION,
+    AT_UP + ON_D_TX_GRANTED + STAY + BY_G + ASKED_BY_G + TX_INDICATION + TELL_G,
+    AT_UP + ON_D_TX_CEASED + STAY + PLANE_OFF + TX_INDICATION + X_4,
+    AT_UP + ON_D_TX_INTERRUPT + IF_G_3 + STAY + PLANE_2 + TX_INDICATION + X_5,
+    AT_UP + ON_D_TX_INTERRUPT + STAY + PLANE_OFF + TX_INDICATION + X_5,
+    AT_UP + ON_D_TX_WAIT + WAIT + PLANE_OFF + TX_INDICATION + X_6,
+    AT_WAIT + ON_D_TX_CONTINUE + IF_K_1 + CALL_ACTIVE + KEPT_PLANE + TX_INDICATION + X_7,
+    AT_WAIT + ON_D_TX_CONTINUE + CALL_ACTIVE + PLANE_OFF + TX_INDICATION + X_8,
+    AT_RESTORING
+        + ON_D_CALL_RESTORE
+        + STAY
+        + STOP_306
+        + UP
+        + BY_G
+        + ASKED_BY_G
+        + TX_INDICATION
+        + TELL_G,
+    AT_DISCONNECT + ON_D_DISCONNECT + IF_UNSENT + CANCEL + ENDED + C_3 + U_RELEASE + STORE_I,
+    AT_CALL + AT_DISCONNECT + ON_D_DISCONNECT + ENDED + C_3 + U_RELEASE + STORE_I,
+    AT_DISCONNECT + ON_D_RELEASE + IF_UNSENT + CANCEL + ENDED + C_3,
+    AT_DISCONNECT + ON_D_RELEASE + CONFIRMED,
+    AT_CALL + ON_D_RELEASE + ENDED + C_3,
+    // Reports, the break of the radio link and its end.
+    AT_MO + AT_DISCONNECT + ON_REPORT_SENT + IF_UNSENT + STAY + SENT,
+    AT_MO + ON_REPORT_FAILED + IF_UNSENT + STOP_303 + RELEASE_INDICATION + C_4 + OVER,
+    AT_DISCONNECT + ON_REPORT_FAILED + IF_UNSENT + CONFIRMED,
+    AT_UP + ON_BREAK + STAY + BROKEN + PLANE_OFF + ASKED_IF_TALKING,
+    AT_RESTORING + ON_BREAK + STAY + STOP_306 + BROKEN + PLANE_OFF,
+    AT_WAIT + ON_BREAK + CALL_ACTIVE + BROKEN + PLANE_OFF + TX_INDICATION + X_8,
+    AT_BROKEN + ON_RESUME + STAY + ASKED_NEEDED + RESTORING + U_CALL_RESTORE + START_306,
+    // Expiries.
+    AT_CALL + ON_EXPIRY + RELEASE + ASKED_0 + C_2 + RELEASE_INDICATION,
+    AT_DISCONNECT + ON_EXPIRY_308 + CONFIRMED,
+    AT_UP + ON_EXPIRY_311 + STAY + U_TX_CEASED + PLANE_OFF,
+];
 
-// User events.
-
-const ROW_0: u64 = AT_IDLE
-    + ON_SETUP_REQUEST
-    + MO_CALL_SETUP
-    + STORE_A_D
-    + ASKED_GIVEN
-    + U_SETUP
-    + TELL_S
-    + START_303;
-
-const ROW_1: u64 = AT_MT + ON_SETUP_RESPONSE + IF_T301_STOPPED + STAY + U_CONNECT + START_301;
-
-const ROW_2: u64 = AT_MO
-    + ON_RELEASE_REQUEST
-    + IF_UNSENT
-    + CANCEL
-    + STOP_303
-    + RELEASE_CONFIRM
-    + OVER;
-
-const ROW_3: u64 = AT_CALL + ON_RELEASE_REQUEST + RELEASE + ASKED_0 + C_1;
-
-const ROW_4: u64 = AT_UP + ON_TX_REQUEST + IF_DEMAND + STAY + U_TX_DEMAND + ASKED_1;
-
-const ROW_5: u64 = AT_UP + ON_TX_REQUEST + IF_CEASE_IN_PLANE_1 + STAY + U_TX_CEASED + PLANE_OFF;
-
-const ROW_6: u64 = AT_UP + ON_TX_REQUEST + IF_CEASE_ASKED + STAY + U_TX_CEASED + ASKED_0;
-
-const ROW_7: u64 = AT_BROKEN + ON_TX_REQUEST + IF_CHANGES_ASKED + STAY + ASKED_GIVEN;
-
-// Network events, in the order of a call.
-
-const ROW_8: u64 = AT_MO
-    + ON_D_CALL_PROCEEDING
-    + STAY
-    + STORE_I
-    + SENT
-    + STOP_303
-    + START_302
-    + PROCEED;
-
-const ROW_9: u64 = AT_MO + ON_D_ALERT + STAY + STORE_I + SENT + STOP_303 + START_302 + ALERT;
-
-const ROW_10: u64 = AT_MO
-    + ON_D_CONNECT
-    + CALL_ACTIVE
-    + STORE_I
-    + STORE_A_D
-    + SENT
-    + STOP_302
-    + STOP_303
-    + START_310
-    + BY_G_OR_OFF
-    + ASKED_BY_G
-    + SETUP_CONFIRM
-    + TELL_G;
-
-const ROW_11: u64 = AT_MT
-    + ON_D_CONNECT_ACKNOWLEDGE
-    + IF_T301_RUNS
-    + CALL_ACTIVE
-    + STOP_301
-    + START_310
-    + BY_G_OR_OFF
-    + ASKED_BY_G
-    + COMPLETE
-    + TELL_G;
-
-const ROW_12: u64 = AT_IDLE + ON_D_SETUP + MT_CALL_SETUP + STORE_I + STORE_A_D + SETUP_INDICATION;
-
-const ROW_13: u64 = AT_UP
-    + ON_D_INFO
-    + IF_SAME_D
-    + STAY
-    + STORE_A_D
-    + SAME_PLANE
-    + MODIFY_INDICATION;
-
-const ROW_14: u64 = AT_UP + ON_D_INFO + STAY + STORE_A_D + PLANE_OFF + MODIFY_INDICATION;
-
-const ROW_15: u64 = AT_UP + ON_D_TX_GRANTED + STAY + BY_G + ASKED_BY_G + TX_INDICATION + TELL_G;
-
-const ROW_16: u64 = AT_UP + ON_D_TX_CEASED + STAY + PLANE_OFF + TX_INDICATION + X_4;
-
-const ROW_17: u64 = AT_UP + ON_D_TX_INTERRUPT + IF_G_3 + STAY + PLANE_2 + TX_INDICATION + X_5;
-
-const ROW_18: u64 = AT_UP + ON_D_TX_INTERRUPT + STAY + PLANE_OFF + TX_INDICATION + X_5;
-
-const ROW_19: u64 = AT_UP + ON_D_TX_WAIT + WAIT + PLANE_OFF + TX_INDICATION + X_6;
-
-const ROW_20: u64 = AT_WAIT
-    + ON_D_TX_CONTINUE
-    + IF_K_1
-    + CALL_ACTIVE
-    + KEPT_PLANE
-    + TX_INDICATION
-    + X_7;
-
-const ROW_21: u64 = AT_WAIT + ON_D_TX_CONTINUE + CALL_ACTIVE + PLANE_OFF + TX_INDICATION + X_8;
-
-const ROW_22: u64 = AT_RESTORING
-    + ON_D_CALL_RESTORE
-    + STAY
-    + STOP_306
-    + UP
-    + BY_G
-    + ASKED_BY_G
-    + TX_INDICATION
-    + TELL_G;
-
-const ROW_23: u64 = AT_DISCONNECT
-    + ON_D_DISCONNECT
-    + IF_UNSENT
-    + CANCEL
-    + ENDED
-    + C_3
-    + U_RELEASE
-    + STORE_I;
-
-const ROW_24: u64 = AT_CALL + AT_DISCONNECT + ON_D_DISCONNECT + ENDED + C_3 + U_RELEASE + STORE_I;
-
-const ROW_25: u64 = AT_DISCONNECT + ON_D_RELEASE + IF_UNSENT + CANCEL + ENDED + C_3;
-
-const ROW_26: u64 = AT_DISCONNECT + ON_D_RELEASE + CONFIRMED;
-
-const ROW_27: u64 = AT_CALL + ON_D_RELEASE + ENDED + C_3;
-
-// Reports, the break of the radio link and its end.
-
-const ROW_28: u64 = AT_MO + AT_DISCONNECT + ON_REPORT_SENT + IF_UNSENT + STAY + SENT;
-
-const ROW_29: u64 = AT_MO
-    + ON_REPORT_FAILED
-    + IF_UNSENT
-    + STOP_303
-    + RELEASE_INDICATION
-    + C_4
-    + OVER;
-
-const ROW_30: u64 = AT_DISCONNECT + ON_REPORT_FAILED + IF_UNSENT + CONFIRMED;
-
-const ROW_31: u64 = AT_UP + ON_BREAK + STAY + BROKEN + PLANE_OFF + ASKED_IF_TALKING;
-
-const ROW_32: u64 = AT_RESTORING + ON_BREAK + STAY + STOP_306 + BROKEN + PLANE_OFF;
-
-const ROW_33: u64 = AT_WAIT + ON_BREAK + CALL_ACTIVE + BROKEN + PLANE_OFF + TX_INDICATION + X_8;
-
-const ROW_34: u64 = AT_BROKEN
-    + ON_RESUME
-    + STAY
-    + ASKED_NEEDED
-    + RESTORING
-    + U_CALL_RESTORE
-    + START_306;
-
-// Expiries.
-
-const ROW_35: u64 = AT_CALL + ON_EXPIRY + RELEASE + ASKED_0 + C_2 + RELEASE_INDICATION;
-
-const ROW_36: u64 = AT_DISCONNECT + ON_EXPIRY_308 + CONFIRMED;
-
-const ROW_37: u64 = AT_UP + ON_EXPIRY_311 + STAY + U_TX_CEASED + PLANE_OFF;
-
-// A row by its place, 0 behind the last. By a `match` the compiler makes one static table of them; an array would be built on the stack
-// where it is used.
-pub fn row_at(k: u64) -> u64
+// A row by its place. The array is used in this function alone, so that the compiler makes one static table of it.
+pub fn row_at(k: usize) -> u64
+    requires { ⌜ k < 38 ⌝ }
     ensures { λ r. ⌜ r ≡ getD rows k 0 ⌝ }
 {
-    match k {
-        0 => ROW_0,
-        1 => ROW_1,
-        2 => ROW_2,
-        3 => ROW_3,
-        4 => ROW_4,
-        5 => ROW_5,
-        6 => ROW_6,
-        7 => ROW_7,
-        8 => ROW_8,
-        9 => ROW_9,
-        10 => ROW_10,
-        11 => ROW_11,
-        12 => ROW_12,
-        13 => ROW_13,
-        14 => ROW_14,
-        15 => ROW_15,
-        16 => ROW_16,
-        17 => ROW_17,
-        18 => ROW_18,
-        19 => ROW_19,
-        20 => ROW_20,
-        21 => ROW_21,
-        22 => ROW_22,
-        23 => ROW_23,
-        24 => ROW_24,
-        25 => ROW_25,
-        26 => ROW_26,
-        27 => ROW_27,
-        28 => ROW_28,
-        29 => ROW_29,
-        30 => ROW_30,
-        31 => ROW_31,
-        32 => ROW_32,
-        33 => ROW_33,
-        34 => ROW_34,
-        35 => ROW_35,
-        36 => ROW_36,
-        37 => ROW_37,
-        _ => 0,
-    }
+    ROWS[k]
 }

@@ -21,7 +21,6 @@ number-at-spec =
     (λ c κs. search needs)
     (λ c. omega arith)
     (λ c. omega arith)
-    (λ c. omega arith)
     (λ c κs. omega arith)
     (λ c κs. search needs)
     (λ c κs. search needs)
