@@ -15,7 +15,7 @@ use Rattle.callcontrol.specs.declared.row.Row.{Row}
 use Rattle.callcontrol.specs.declared.step.Stepped.{Stepped}
 use Rattle.callcontrol.specs.Call.{sound, isIdle}
 use Rattle.callcontrol.specs.Settle.{settled}
-use Rattle.callcontrol.specs.Step.{Outcome, refusal, carried, whenRead, stepOf}
+use Rattle.callcontrol.specs.Step.{Outcome, refusal, carried, whenRead, stepOf, asOutcome}
 use Rattle.callcontrol.proofs.Determined.{step}
 use Rattle.demands.specs.Runs.{Turn, outcome, next, run}
 use Rattle.small.specs.declared.flat.Flat.{Flat}
@@ -23,14 +23,15 @@ use Rattle.small.specs.Flat.{flatOf}
 use Rattle.small.specs.Line.{tableRow}
 use Rattle.small.specs.Reading.{kindBy, flatted}
 use Rattle.small.specs.Small.{namesOther, overFlat, decidedBy, carriedBy, tabled, whenFlat, smallOf}
-use Rattle.small.specs.Engines.{Engine, Promised, given, engineRun, SameStep, TablesAreStep, SameRun}
+use Rattle.small.specs.Engines.{Engine, Promised, given, Equal, engineRun, Gives, Keeps, RunBy, none, turn, SameStep, TablesAreStep, SameRun, OneRun}
 use Rattle.small.proofs.Carrying.{whole}
 use Rattle.small.proofs.Deciding.{decided-is}
 use Rattle.small.proofs.Entries.{kind-is}
 
-pub same-step : SameStep
-same-step first second p q c event buffer =
-    let w = step (stepOf c event buffer) _ _ _ _ (p c event buffer) (q c event buffer) in
+-- two results that one outcome allows
+equal : (o : Outcome) (r₁ r₂ : Stepped) (b₁ b₂ : List ℕ) → asOutcome r₁ b₁ ≡ o → asOutcome r₂ b₂ ≡ o → Equal r₁ r₂ b₁ b₂
+equal o r₁ r₂ b₁ b₂ p q =
+    let w = step o r₁ r₂ b₁ b₂ p q in
     record {
       answer = ap (λ (r : Stepped). r .answer) (w .0);
       place = ap (λ (r : Stepped). r .place) (w .0);
@@ -38,6 +39,9 @@ same-step first second p q c event buffer =
       count = ap (λ (r : Stepped). r .count) (w .0);
       buffer = w .1;
     }
+
+pub same-step : SameStep
+same-step first second p q c event buffer = equal (stepOf c event buffer) _ _ _ _ (p c event buffer) (q c event buffer)
 
 -- by the tables
 
@@ -80,3 +84,16 @@ record-is f p c (t ∷ ts) = rw (turn-is f p c t) (record-is f p (outcome c t .c
 
 pub same-run : SameRun
 same-run f p c ts = (record-is f p c ts, λ t. rw (record-is f p c ts) (turn-is f p (run c ts) t))
+
+record-by : (g : Gives) → Keeps g → {c last : Call} {ts : List Turn} → RunBy g c ts last → last ≡ run c ts
+unfolding run next outcome
+record-by g k none = refl
+record-by g k (turn {c} {last} {t} {ts} {r} {b} h rest) =
+    record-by g k rest ∙ ap (λ (x : Call). run x ts) (ap (λ (o : Outcome). o .call) (k c t r b h))
+
+pub one-run : OneRun
+unfolding outcome
+one-run first second p q c one other ts r s =
+    let x = record-by first p r in
+    let y = record-by second q s in
+    (x, y, λ t r₁ r₂ b₁ b₂ g h. equal (outcome (run c ts) t) r₁ r₂ b₁ b₂ (rw x at (p one t r₁ b₁ g)) (rw y at (q other t r₂ b₂ h)))

@@ -48,3 +48,24 @@ abbrev pub SameRun : Type 0
 SameRun =
     (f : Engine) → Promised f → (c : Call) (ts : List Turn) →
     (engineRun f c ts ≡ run c ts) × ((t : Turn) → given f (engineRun f c ts) t ≡ outcome (run c ts) t)
+
+-- what an engine may give for a record and a turn: a result, and the buffer then
+abbrev pub Gives : Type 1
+Gives = Call → Turn → Stepped → List ℕ → Type 0
+
+-- it gives nothing but what the promise of `step`, and of `small_step`, allows
+abbrev pub Keeps : Gives → Type 0
+Keeps g = (c : Call) (t : Turn) (r : Stepped) (b : List ℕ) → g c t r b → asOutcome r b ≡ stepOf c (t .event) (t .buffer)
+
+-- some turns from a record on, in each anything that may be given, and the record that the last of them gave
+pub data RunBy (g : Gives) : Call → List Turn → Call → Type 0 where
+  none : {c : Call} → RunBy g c [] c
+  turn : {c last : Call} {t : Turn} {ts : List Turn} {r : Stepped} {b : List ℕ} → g c t r b → RunBy g (r .call) ts last → RunBy g c (t ∷ ts) last
+
+-- whatever either engine gives, turn after turn, the run of the second is the run of the first, and both are the step's: after any turns the
+-- same record, and in any turn after them the same answer, place, record, count and buffer
+abbrev pub OneRun : Type 1
+OneRun =
+    (first second : Gives) → Keeps first → Keeps second → (c one other : Call) (ts : List Turn) → RunBy first c ts one → RunBy second c ts other →
+    (one ≡ run c ts) × (other ≡ run c ts)
+    × ((t : Turn) (r₁ r₂ : Stepped) (b₁ b₂ : List ℕ) → first one t r₁ b₁ → second other t r₂ b₂ → Equal r₁ r₂ b₁ b₂)
