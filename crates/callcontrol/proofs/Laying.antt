@@ -1,10 +1,10 @@
 -- Messages laid one after the other are their bytes stored one after the other, and how many bytes they are.
 use Prim.Native.Nat.{ℕ, zero, suc, _+_, _*_, _≤_}
 use mathlib.Core.Path.{_≡_, refl, sym, _∙_, ap}
-use mathlib.Core.Bool.{Bool, true, false, cond, not}
+use mathlib.Core.Bool.{Bool, true, false, cond, not, _||_}
 use mathlib.Core.List.{List, [], _∷_, _++_}
 use native.Mathlib.Omega.{arith}
-use borrow.Author.Tests.{le-leb}
+use borrow.Author.Tests.{le-leb, ne-eqb, eqb-true, not-false}
 use native.Mathlib.Nat.{mul-add}
 use lib.Dec.{eqb, lit≤}
 use lib.ListN.{length, length-append, getD}
@@ -12,10 +12,9 @@ use lib.Seq.{sets, length-sets}
 use Rattle.records.specs.declared.messages.Message.{Message}
 use Rattle.records.specs.Bodies.{laid, laidNext, flatSize}
 use Rattle.records.specs.Tables.{flat}
-use Rattle.records.specs.Messages.{messages, messageBytes, messageSize}
+use Rattle.records.specs.Messages.{messages, messageBytes, messageSize, messageLaid}
 use Rattle.records.proofs.Laws.{sets-append, length-flatBytes}
-use Rattle.callcontrol.specs.Draft.{Draft}
-use Rattle.callcontrol.specs.declared.draft.Slot.{Slot}
+use Rattle.callcontrol.specs.Draft.{Slot, Draft}
 use Rattle.callcontrol.specs.Call.{T301, T302, T303, T306, T308, T310, T311}
 use Rattle.callcontrol.specs.Writing.{when, held, byNumber, starting, messagesIn, bytesOf, layAll, Laid, countOf}
 
@@ -164,6 +163,48 @@ no-orders order flags h =
     quiet (order 301) (order 302) (order 303) (order 306) (order 308) (order 310) (order 311) (getD flags T301 false) (getD flags T302 false)
     (getD flags T303 false) (getD flags T306 false) (getD flags T308 false) (getD flags T310 false) (getD flags T311 false) h
 
+-- the test whether any timer is flagged
+pub no-flags : (flags : List Bool) → not (eqb (countOf flags) 0) ≡ false → countOf flags ≡ 0
+no-flags flags h = eqb-true (countOf flags) 0 (not-false (eqb (countOf flags) 0) h)
+
+some : (n : ℕ) → (n ≡ 0 → ⊥) → true ≡ not (eqb n 0)
+some n h = rw (ne-eqb n 0 h) refl
+
+abbrev flagged : Bool → Bool → Bool → Bool → Bool → Bool → Bool → ℕ
+flagged a b c d e f g = cond a 1 0 + cond b 1 0 + cond c 1 0 + cond d 1 0 + cond e 1 0 + cond f 1 0 + cond g 1 0
+
+any-seven : (a b c d e f g : Bool) → (a || b || c || d || e || f || g) ≡ not (eqb (flagged a b c d e f g) 0)
+any-seven true b c d e f g = some (flagged true b c d e f g) (λ z. omega arith)
+any-seven false true c d e f g = some (flagged false true c d e f g) (λ z. omega arith)
+any-seven false false true d e f g = some (flagged false false true d e f g) (λ z. omega arith)
+any-seven false false false true e f g = some (flagged false false false true e f g) (λ z. omega arith)
+any-seven false false false false true f g = some (flagged false false false false true f g) (λ z. omega arith)
+any-seven false false false false false true g = some (flagged false false false false false true g) (λ z. omega arith)
+any-seven false false false false false false true = some (flagged false false false false false false true) (λ z. omega arith)
+any-seven false false false false false false false = refl
+
+pub any-flags : (flags : List Bool)
+    → (getD flags T301 false || getD flags T302 false || getD flags T303 false || getD flags T306 false || getD flags T308 false || getD flags T310 false || getD flags T311 false)
+    ≡ not (eqb (countOf flags) 0)
+unfolding countOf
+any-flags flags =
+    any-seven (getD flags T301 false) (getD flags T302 false) (getD flags T303 false) (getD flags T306 false) (getD flags T308 false)
+    (getD flags T310 false) (getD flags T311 false)
+
 pub lay-none : {b : List ℕ} {at : ℕ} {ms : List Message} → ms ≡ [] → Laid b at ms at b
 unfolding layAll
 lay-none {b} {at} e = record { is = rw e }
+
+-- one message
+pub lay-one : {a b : List ℕ} {at r : ℕ} {m : Message} → _≡_ {A = ℕ × List ℕ} (r, b) (messageLaid m a at) → Laid a at (m ∷ []) r b
+unfolding layAll
+lay-one e = record { is = e }
+
+-- U-SETUP has a byte more where it carries the slots
+size-u-setup : (a d q v : ℕ) → messageSize (Message.USetup a d q v) ≡ 10 + cond (not (eqb v 0)) 1 0
+unfolding messageSize flatSize
+size-u-setup a d q zero = refl
+size-u-setup a d q (suc v) = rw (ne-eqb (suc v) 0 (λ z. absurd (omega arith))) refl
+
+pub size-setup : (a d q v : ℕ) → 10 + cond (not (eqb v 0)) 1 0 ≡ length (bytesOf (Message.USetup a d q v ∷ []))
+size-setup a d q v = sym (size-one (Message.USetup a d q v) ∙ size-u-setup a d q v)

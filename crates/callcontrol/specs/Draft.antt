@@ -8,9 +8,12 @@ use Rattle.records.specs.declared.messages.Message.{Message}
 use Rattle.callcontrol.specs.declared.call.State.{State}
 use Rattle.callcontrol.specs.declared.call.Path.{Path}
 use Rattle.callcontrol.specs.declared.call.Call.{Call}
-use Rattle.callcontrol.specs.declared.draft.Slot.{Slot}
-use Rattle.callcontrol.specs.declared.draft.Drafted.{Drafted}
 use Rattle.callcontrol.specs.Call.{freshCall, none, runs, T301, T302, T303, T306, T308, T310, T311}
+
+-- a message, or none
+pub data Slot : Type 0 where
+  Empty : Slot
+  Holds : Message → Slot
 
 -- a list for each array of flags; and whether there is a row at all
 pub record Draft : Type 0 where
@@ -23,12 +26,6 @@ pub record Draft : Type 0 where
   pub configure : ℕ
   pub user : Slot
   pub taken : Bool
-
--- the code makes one only where there is a row
-abbrev pub asDraft : Drafted → Draft
-asDraft d =
-    record
-    { call = d .call; stops = d .stops; starts = d .starts; cancel = d .cancel; pdu = d .pdu; configure = d .configure; user = d .user; taken = true }
 
 -- a row is read from left to right: a draft, and then what is done to it
 infixl 20 _▷_

@@ -12,8 +12,8 @@ use Rattle.records.specs.declared.messages.Message.{Message}
 use Rattle.callcontrol.specs.declared.call.State.{State}
 use Rattle.callcontrol.specs.declared.call.Path.{Path}
 use Rattle.callcontrol.specs.declared.call.Call.{Call}
-use Rattle.callcontrol.specs.declared.draft.Slot.{Slot}
-use Rattle.callcontrol.specs.Draft.{Draft}
+use Rattle.callcontrol.specs.declared.draft.Drafted.{Drafted}
+use Rattle.callcontrol.specs.Draft.{Slot, Draft}
 use Rattle.callcontrol.specs.declared.row.Row.{Row}
 use Rattle.callcontrol.specs.declared.settle.Timing.{Timing}
 use Rattle.callcontrol.specs.Call.{freshCall, none, T301, T302, T303, T306, T308, T310, T311}
@@ -343,6 +343,12 @@ settled c r =
       user = userBy r;
       taken = true;
     }
+
+-- the draft that the code's stands for: the row's digits say its messages. The code makes one only where there is a row
+abbrev pub asDraft : Drafted → Draft
+asDraft d =
+    record
+    { call = d .call; stops = d .stops; starts = d .starts; cancel = has (d .row .orders) CANCEL; pdu = pduBy (d .row); configure = d .configure; user = userBy (d .row); taken = true }
 
 -- 0 is no row
 unfoldable pub draftOf : Call → Row → Draft

@@ -8,8 +8,7 @@ use lib.ListN.{getD}
 use Rattle.records.specs.declared.messages.Message.{Message}
 use Rattle.records.specs.Bodies.{laid, laidNext}
 use Rattle.records.specs.Messages.{messageBytes}
-use Rattle.callcontrol.specs.declared.draft.Slot.{Slot}
-use Rattle.callcontrol.specs.Draft.{Draft}
+use Rattle.callcontrol.specs.Draft.{Slot, Draft}
 use Rattle.callcontrol.specs.Call.{T301, T302, T303, T306, T308, T310, T311}
 
 abbrev pub when : Bool → Message → List Message

@@ -263,9 +263,6 @@ impl Call {
         if !self.idle_is_fresh() {
             return false;
         }
-        if !self.timers_agree() {
-            return false;
-        }
-        self.state_agrees()
+        self.timers_agree() & self.state_agrees()
     }
 }

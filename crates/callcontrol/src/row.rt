@@ -175,7 +175,7 @@ impl Row {
     }
 
     // A row that stores none of the values.
-    pub fn of(call: Call, orders: u64, value: u8) -> Self
+    pub(crate) fn of(call: Call, orders: u64, value: u8) -> Self
         ensures { λ r. ⌜ r ≡ rowOf call orders value ⌝ }
     {
         Row {
@@ -191,7 +191,7 @@ impl Row {
     }
 
     // A row that stores asked.
-    pub fn asking(call: Call, orders: u64, asked: u8, value: u8) -> Self
+    pub(crate) fn asking(call: Call, orders: u64, asked: u8, value: u8) -> Self
         ensures { λ r. ⌜ r ≡ rowAsking call orders asked value ⌝ }
     {
         Row {
@@ -207,7 +207,7 @@ impl Row {
     }
 
     // A row that stores the identifier.
-    pub fn naming(call: Call, orders: u64, id: u16, value: u8) -> Self
+    pub(crate) fn naming(call: Call, orders: u64, id: u16, value: u8) -> Self
         ensures { λ r. ⌜ r ≡ rowNaming call orders id value ⌝ }
     {
         Row {

@@ -2,8 +2,7 @@
 // states once lives in one function here.
 ghost use mathlib.Core.Path.{_≡_};
 ghost use Prim.Native.Nat.{_<_};
-ghost use Rattle.callcontrol.specs.Draft.{asDraft};
-ghost use Rattle.callcontrol.specs.Settle.{has, timing, expireTimer, stopTimer, startTimer, stopIf, startIf, limitTimer, limitIf, expiredBy, orderedBy, planeTimer, timingBy, configureBy, planeBy, stateBy, keptBy, pathBy, sentBy, nextBy, pduBy, userBy, settled};
+ghost use Rattle.callcontrol.specs.Settle.{has, timing, expireTimer, stopTimer, startTimer, stopIf, startIf, limitTimer, limitIf, expiredBy, orderedBy, planeTimer, timingBy, configureBy, planeBy, stateBy, keptBy, pathBy, sentBy, nextBy, settled, asDraft};
 use crate::call::Call;
 use crate::call::Path;
 use crate::call::State;
@@ -15,13 +14,10 @@ use crate::call::T308;
 use crate::call::T310;
 use crate::call::T311;
 use crate::draft::Drafted;
-use crate::draft::Slot;
-use crate::row::CANCEL;
 use crate::row::EXPIRED_301;
 use crate::row::OVER;
 use crate::row::PLANE_1;
 use crate::row::Row;
-use crate::row::SETUP_INDICATION;
 use crate::row::START_301;
 use crate::row::START_302;
 use crate::row::START_303;
@@ -35,13 +31,11 @@ use crate::row::STOP_306;
 use crate::row::STOP_308;
 use crate::row::STOP_310;
 use crate::row::STOP_311;
-use crate::row::U_SETUP;
 use crate::row::UNSENT;
 use crate::row::UP;
-use records::messages::Message;
 
 // Whether an order of one bit is in the sum.
-fn has(orders: u64, bit: u64) -> bool
+pub(crate) fn has(orders: u64, bit: u64) -> bool
     requires { ⌜ 0 < bit ⌝ }
     ensures { λ r. ⌜ r ≡ has orders bit ⌝ }
 {
@@ -202,7 +196,7 @@ impl Timing {
     }
 }
 
-pub fn timing_by(orders: u64, code: u8, timers: [bool; 7], configure: u8) -> Timing
+pub(crate) fn timing_by(orders: u64, code: u8, timers: [bool; 7], configure: u8) -> Timing
     ensures { λ r. ⌜ r ≡ timingBy orders code timers configure ⌝ }
 {
     Timing::new(timers)
@@ -308,71 +302,8 @@ pub fn next_by(call: Call, row: Row, configure: u8, timers: [bool; 7]) -> Call
     }
 }
 
-fn pdu_by(row: Row) -> Slot
-    ensures { λ r. ⌜ r ≡ pduBy row ⌝ }
-{
-    let id = row.id;
-    let address = row.address;
-    let mode = row.mode;
-    let ask = row.asked;
-    let value = row.value;
-    match row.orders / U_SETUP % 16 {
-        // U_SETUP
-        1 => Slot::Holds(Message::USetup {
-            address,
-            mode,
-            ask,
-            slots: value,
-        }),
-        // U_CONNECT
-        2 => Slot::Holds(Message::UConnect { id }),
-        // U_DISCONNECT
-        3 => Slot::Holds(Message::UDisconnect { id, cause: value }),
-        // U_RELEASE
-        4 => Slot::Holds(Message::URelease { id }),
-        // U_TX_DEMAND
-        5 => Slot::Holds(Message::UTxDemand { id }),
-        // U_TX_CEASED
-        6 => Slot::Holds(Message::UTxCeased { id }),
-        // U_CALL_RESTORE
-        7 => Slot::Holds(Message::UCallRestore { id, address, ask }),
-        _ => Slot::Empty,
-    }
-}
-
-fn user_by(row: Row) -> Slot
-    ensures { λ r. ⌜ r ≡ userBy row ⌝ }
-{
-    let id = row.id;
-    let address = row.address;
-    let mode = row.mode;
-    let slots = row.slots;
-    let value = row.value;
-    match row.orders / SETUP_INDICATION % 16 {
-        // SETUP_INDICATION
-        1 => Slot::Holds(Message::SetupIndication { id, address, mode }),
-        // SETUP_CONFIRM
-        2 => Slot::Holds(Message::SetupConfirm { id, grant: value }),
-        // PROCEED
-        3 => Slot::Holds(Message::Proceed),
-        // ALERT
-        4 => Slot::Holds(Message::Alert),
-        // COMPLETE
-        5 => Slot::Holds(Message::Complete { grant: value }),
-        // RELEASE_INDICATION
-        6 => Slot::Holds(Message::ReleaseIndication { cause: value }),
-        // RELEASE_CONFIRM
-        7 => Slot::Holds(Message::ReleaseConfirm),
-        // TX_INDICATION
-        8 => Slot::Holds(Message::TxIndication { told: value }),
-        // MODIFY_INDICATION
-        9 => Slot::Holds(Message::ModifyIndication { mode, slots }),
-        _ => Slot::Empty,
-    }
-}
-
 // The draft that a row stands for.
-pub fn settle(call: Call, row: Row) -> Drafted
+pub(crate) fn settle(call: Call, row: Row) -> Drafted
     ensures { λ r. ⌜ asDraft r ≡ settled call row ⌝ }
 {
     let n = row.orders;
@@ -383,15 +314,11 @@ pub fn settle(call: Call, row: Row) -> Drafted
     let stops = timing.stops;
     let starts = timing.starts;
     let next = next_by(call, row, configure, running);
-    let pdu = pdu_by(row);
-    let user = user_by(row);
     Drafted {
         call: next,
         stops,
         starts,
-        cancel: has(n, CANCEL),
-        pdu,
         configure,
-        user,
+        row,
     }
 }

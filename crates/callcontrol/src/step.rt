@@ -1,7 +1,7 @@
 // The step: an event comes in; the next record and the messages go out, or a refusal that changes nothing.
 ghost use mathlib.Core.Path.{_≡_};
 ghost use Prim.Native.Nat.{_<_};
-ghost use Rattle.callcontrol.specs.Draft.{asDraft};
+ghost use Rattle.callcontrol.specs.Settle.{asDraft};
 ghost use Rattle.callcontrol.specs.Step.{answerNumber, refusing, namedIn, differs, otherCall, overTransmission, carried, decided, stepOf, asOutcome, unreadAs, placeIn};
 use crate::call::Call;
 use crate::draft::Drafted;

@@ -18,9 +18,8 @@ use Rattle.records.specs.Messages.{messages}
 use Rattle.callcontrol.specs.declared.call.State.{State}
 use Rattle.callcontrol.specs.declared.call.Path.{Path}
 use Rattle.callcontrol.specs.declared.call.Call.{Call}
-use Rattle.callcontrol.specs.declared.draft.Slot.{Slot}
 use Rattle.callcontrol.specs.Call.{T301, T302, T303, T306, T308, T310, T311}
-use Rattle.callcontrol.specs.Draft.{Draft, _▷_, draft, noRow, go, onPath, storeId, storeMode, storeCode, storeSlots, storeSent, stop, start, plane, grant, grantOrOff, restart}
+use Rattle.callcontrol.specs.Draft.{Slot, Draft, _▷_, draft, noRow, go, onPath, storeId, storeMode, storeCode, storeSlots, storeSent, stop, start, plane, grant, grantOrOff, restart}
 use Rattle.callcontrol.specs.Rows
 use Rattle.callcontrol.specs.Rows.{rowFor}
 use Rattle.callcontrol.specs.Writing.{when, held, byNumber, starting, messagesIn, bytesOf}

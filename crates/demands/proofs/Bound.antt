@@ -15,8 +15,7 @@ use Rattle.records.specs.Bodies.{flatSize}
 use Rattle.callcontrol.specs.declared.call.State.{State}
 use Rattle.callcontrol.specs.declared.call.Path.{Path}
 use Rattle.callcontrol.specs.declared.call.Call.{Call}
-use Rattle.callcontrol.specs.declared.draft.Slot.{Slot}
-use Rattle.callcontrol.specs.Draft.{Draft}
+use Rattle.callcontrol.specs.Draft.{Slot, Draft}
 use Rattle.callcontrol.specs.Call.{freshCall, runs, T301, T302, T303, T306, T308, T310, T311}
 use Rattle.callcontrol.specs.Draft.{_▷_, draft, go, storeId, storeMode, storeCode, storeSlots, storeSent, start, stop, expired, samePlane, plane, off, grantOrOff, cancel, tell, tellModified, release}
 use Rattle.callcontrol.specs.Rows

@@ -6,8 +6,6 @@ use mathlib.Core.List.{List}
 use denote.Ref.{now}
 use Rattle.records.specs.declared.bodies.Written.{Written}
 use Rattle.records.proofs.Determined as records
-use Rattle.callcontrol.specs.declared.draft.Drafted.{Drafted}
-use Rattle.callcontrol.specs.Draft.{Draft}
 use Rattle.callcontrol.proofs.Determined as callcontrol
 use Rattle.records.proofs.events.read_event.Reads as read-event-promise
 use Rattle.records.proofs.messages.read_message.Reads as read-message-promise
@@ -33,9 +31,6 @@ use Rattle.callcontrol.proofs.call.Call.transmits.Reads as transmits-promise
 use Rattle.callcontrol.proofs.call.state_number.Reads as state-number-promise
 use Rattle.callcontrol.proofs.call.path_number.Reads as path-number-promise
 use Rattle.callcontrol.proofs.row.Row.none.Reads as row-none-promise
-use Rattle.callcontrol.proofs.row.Row.of.Reads as row-of-promise
-use Rattle.callcontrol.proofs.row.Row.asking.Reads as row-asking-promise
-use Rattle.callcontrol.proofs.row.Row.naming.Reads as row-naming-promise
 use Rattle.callcontrol.proofs.rows.plane_granted.Reads as plane-granted-promise
 use Rattle.callcontrol.proofs.rows.plane_or_off.Reads as plane-or-off-promise
 use Rattle.callcontrol.proofs.rows.asked_after.Reads as asked-after-promise
@@ -44,9 +39,7 @@ use Rattle.callcontrol.proofs.rows.code_after.Reads as code-after-promise
 use Rattle.callcontrol.proofs.rows.slots_after.Reads as slots-after-promise
 use Rattle.callcontrol.proofs.rows.asked_after_cut.Reads as asked-after-cut-promise
 use Rattle.callcontrol.proofs.rows.asks.Reads as asks-promise
-use Rattle.callcontrol.proofs.settle.timing_by.Reads as timing-by-promise
 use Rattle.callcontrol.proofs.settle.next_by.Reads as next-by-promise
-use Rattle.callcontrol.proofs.settle.settle.Reads as settle-promise
 
 -- ---- records
 
@@ -129,15 +122,6 @@ transmits κs a r₁ r₂ e₁ e₂ p q = p ∙ sym q
 pub row-none : (κs : _) (a : _) (r₁ r₂ : _) (e₁ e₂ : _) → row-none-promise.Learnt κs a r₁ e₁ → row-none-promise.Learnt κs a r₂ e₂ → r₁ ≡ r₂
 row-none κs a r₁ r₂ e₁ e₂ p q = p ∙ sym q
 
-pub row-of : (κs : _) (a : _) (r₁ r₂ : _) (e₁ e₂ : _) → row-of-promise.Learnt κs a r₁ e₁ → row-of-promise.Learnt κs a r₂ e₂ → r₁ ≡ r₂
-row-of κs a r₁ r₂ e₁ e₂ p q = p ∙ sym q
-
-pub row-asking : (κs : _) (a : _) (r₁ r₂ : _) (e₁ e₂ : _) → row-asking-promise.Learnt κs a r₁ e₁ → row-asking-promise.Learnt κs a r₂ e₂ → r₁ ≡ r₂
-row-asking κs a r₁ r₂ e₁ e₂ p q = p ∙ sym q
-
-pub row-naming : (κs : _) (a : _) (r₁ r₂ : _) (e₁ e₂ : _) → row-naming-promise.Learnt κs a r₁ e₁ → row-naming-promise.Learnt κs a r₂ e₂ → r₁ ≡ r₂
-row-naming κs a r₁ r₂ e₁ e₂ p q = p ∙ sym q
-
 pub plane-granted : (κs : _) (a : _) (r₁ r₂ : _) (e₁ e₂ : _) → plane-granted-promise.Learnt κs a r₁ e₁ → plane-granted-promise.Learnt κs a r₂ e₂ → r₁ ≡ r₂
 plane-granted κs a r₁ r₂ e₁ e₂ p q = p .0 ∙ sym (q .0)
 
@@ -162,16 +146,5 @@ asked-after-cut κs a r₁ r₂ e₁ e₂ p q = p ∙ sym q
 pub asks : (κs : _) (a : _) (r₁ r₂ : _) (e₁ e₂ : _) → asks-promise.Learnt κs a r₁ e₁ → asks-promise.Learnt κs a r₂ e₂ → r₁ ≡ r₂
 asks κs a r₁ r₂ e₁ e₂ p q = p ∙ sym q
 
-pub timing-by : (κs : _) (a : _) (r₁ r₂ : _) (e₁ e₂ : _) → timing-by-promise.Learnt κs a r₁ e₁ → timing-by-promise.Learnt κs a r₂ e₂ → r₁ ≡ r₂
-timing-by κs a r₁ r₂ e₁ e₂ p q = p ∙ sym q
-
 pub next-by : (κs : _) (a : _) (r₁ r₂ : _) (e₁ e₂ : _) → next-by-promise.Learnt κs a r₁ e₁ → next-by-promise.Learnt κs a r₂ e₂ → r₁ ≡ r₂
 next-by κs a r₁ r₂ e₁ e₂ p q = p ∙ sym q
-
--- a draft of the code has nothing that the draft which it stands for does not say
-abbrev drafted : Draft → Drafted
-drafted d =
-    record { call = d .call; stops = d .stops; starts = d .starts; cancel = d .cancel; pdu = d .pdu; configure = d .configure; user = d .user }
-
-pub settle : (κs : _) (a : _) (r₁ r₂ : _) (e₁ e₂ : _) → settle-promise.Learnt κs a r₁ e₁ → settle-promise.Learnt κs a r₂ e₂ → r₁ ≡ r₂
-settle κs a r₁ r₂ e₁ e₂ p q = ap drafted (p ∙ sym q)

@@ -12,8 +12,7 @@ use Rattle.records.specs.declared.messages.Message.the-variants.{SetupConfirm, 
 use Rattle.callcontrol.specs.declared.call.State.{State}
 use Rattle.callcontrol.specs.declared.call.Path.{Path}
 use Rattle.callcontrol.specs.declared.call.Call.{Call}
-use Rattle.callcontrol.specs.declared.draft.Slot.{Slot}
-use Rattle.callcontrol.specs.Draft.{Draft, _▷_, draft, go, onPath, storeId, storeMode, storeCode, storeSlots, storeSent, stop, start, samePlane, plane, off, grant, grantOrOff, restart, tell}
+use Rattle.callcontrol.specs.Draft.{Slot, Draft, _▷_, draft, go, onPath, storeId, storeMode, storeCode, storeSlots, storeSent, stop, start, samePlane, plane, off, grant, grantOrOff, restart, tell}
 use Rattle.callcontrol.specs.Call.{freshCall, isIdle, T301, T302, T303, T306, T310}
 use Rattle.callcontrol.specs.Rows
 use Rattle.callcontrol.specs.Rows.{rowFor}

@@ -10,8 +10,7 @@ use Rattle.records.specs.declared.messages.Message.the-variants.{ReleaseIndicat
 use Rattle.callcontrol.specs.declared.call.State.{State}
 use Rattle.callcontrol.specs.declared.call.Path.{Path}
 use Rattle.callcontrol.specs.declared.call.Call.{Call}
-use Rattle.callcontrol.specs.declared.draft.Slot.{Slot}
-use Rattle.callcontrol.specs.Draft.{Draft}
+use Rattle.callcontrol.specs.Draft.{Slot, Draft}
 use Rattle.callcontrol.specs.Call.{freshCall, runs, T302, T311}
 use Rattle.callcontrol.specs.Draft.{_▷_, draft, storeMode, storeAsked, storeCode, storeSlots, stop, start, expired, restart, samePlane, plane, off, grant, grantOrOff, cancel, tell, release}
 use Rattle.callcontrol.specs.Rows

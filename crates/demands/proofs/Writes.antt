@@ -11,9 +11,8 @@ use Rattle.records.specs.declared.messages.Message.{Message}
 use Rattle.records.specs.Tables.{Read, taken, read}
 use Rattle.records.specs.Events.{events}
 use Rattle.callcontrol.specs.declared.call.Call.{Call}
-use Rattle.callcontrol.specs.declared.draft.Slot.{Slot}
 use Rattle.callcontrol.specs.Call.{T301, T302, T303, T306, T308, T310, T311}
-use Rattle.callcontrol.specs.Draft.{Draft}
+use Rattle.callcontrol.specs.Draft.{Slot, Draft}
 use Rattle.callcontrol.specs.Rows
 use Rattle.callcontrol.specs.Writing.{when, held, byNumber, starting, messagesIn}
 use Rattle.demands.specs.Runs.{Turn, outcome, eventIn, takenBy, messagesOf, writtenBy, every?}

@@ -17,7 +17,6 @@ use Rattle.records.specs.Laws.{every, Lawful}
 use Rattle.records.proofs.Laws.{length-flatBytes}
 use Rattle.callcontrol.specs.declared.call.Call.{Call}
 use Rattle.callcontrol.specs.Draft.{Draft}
-use Rattle.callcontrol.specs.declared.draft.Slot.{Slot}
 use Rattle.callcontrol.specs.Call.{sound}
 use Rattle.callcontrol.specs.Rows.{rowFor}
 use Rattle.callcontrol.specs.Writing.{held, messagesIn, bytesOf, countOf}

@@ -13,10 +13,9 @@ use Rattle.records.specs.Bodies.{flatBytes, flatSize, bodyBytes}
 use Rattle.records.specs.declared.messages.Message.{Message}
 use Rattle.records.specs.Messages.{messageBytes}
 use Rattle.records.proofs.Laws.{by-test}
-use Rattle.callcontrol.specs.declared.draft.Slot.{Slot}
 use Rattle.callcontrol.specs.declared.row.Row.{Row}
 use Rattle.callcontrol.specs.declared.call.Call.{Call}
-use Rattle.callcontrol.specs.Draft.{Draft}
+use Rattle.callcontrol.specs.Draft.{Slot, Draft}
 use Rattle.callcontrol.specs.Step.{Outcome, carried}
 use Rattle.callcontrol.specs.Settle.{has, pduBy, userBy, settled}
 use Rattle.callcontrol.specs.Writing.{when, held, byNumber, starting, messagesIn, bytesOf}

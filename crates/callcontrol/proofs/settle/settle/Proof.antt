@@ -9,10 +9,7 @@ unfolding settled
 settle-spec =
     tie.close
     (tie.spec
-    (λ c. search needs)
-    (λ c. search needs)
-    (λ c. search needs)
-    (λ c. search needs)
-    (λ c. search needs)
-    (λ c. search needs)
-    (λ c. rw (c .has .ensures, c .before .user-by .ensures, c .before .before .pdu-by .ensures, c .before .before .before .next-by .ensures, c .before .before .before .before .before .before .before .timing-by .ensures, c .before .before .before .before .before .before .before .before .configure-by .ensures)))
+    (λ c κs. search needs)
+    (λ c κs. search needs)
+    (λ c κs. search needs)
+    (λ c. rw (c .next-by .ensures, c .before .before .before .before .timing-by .ensures, c .before .before .before .before .before .configure-by .ensures)))

@@ -1,7 +1,7 @@
 -- The messages are counted, and laid where they fit.
 use borrow.Author.Needs.{needs}
 use denote.Ref.{now}
-use Rattle.callcontrol.specs.Draft.{asDraft}
+use Rattle.callcontrol.specs.Settle.{asDraft}
 use Rattle.callcontrol.proofs.Carried.{too-long, fitting}
 use Rattle.callcontrol.proofs.step.carry.Statement.{statement}
 use Rattle.callcontrol.proofs.step.carry.Tie as tie

@@ -16,5 +16,6 @@ lay-messages-spec =
     (λ c κs. search needs)
     (λ c κs. search needs)
     (λ c κs. search needs)
+    (λ c κs. search needs)
     (λ c. search needs)
-    (λ c. lay-then (c .before .before .before .before .before .before .before .before .before .before .before .before .before .before .before .before .before .before .before .before .before .before .lay-stops .ensures) (lay-then (c .before .before .before .before .before .before .before .before .before .before .before .before .before .before .before .before .before .before .lay-when .ensures) (lay-then (c .before .before .before .before .before .before .before .before .before .before .before .before .before .before .lay-held .ensures) (lay-then (c .before .before .before .before .before .before .before .before .before .before .lay-starts .ensures) (lay-then (c .before .before .before .before .before .before .lay-when2 .ensures) (c .before .before .lay-held2 .ensures)))))))
+    (λ c. rw (← c .before .before .before .before .before .before .before .before .before .before .before .before .before .before .before .before .before .before .before .before .has .ensures) (lay-then (c .before .before .before .before .before .before .before .before .before .before .before .before .before .before .before .before .before .before .before .before .before .before .before .lay-stops .ensures) (lay-then (c .before .before .before .before .before .before .before .before .before .before .before .before .before .before .before .before .before .before .lay-cancel-if .ensures) (lay-then (c .before .before .before .before .before .before .before .before .before .before .before .before .before .before .lay-pdu .ensures) (lay-then (c .before .before .before .before .before .before .before .before .before .before .lay-starts .ensures) (lay-then (c .before .before .before .before .before .before .lay-plane .ensures) (c .before .before .lay-user .ensures))))))))

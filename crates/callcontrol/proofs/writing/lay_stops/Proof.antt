@@ -29,4 +29,4 @@ lay-stops-spec =
     (λ c. search needs)
     (λ c κs. search needs)
     (λ c. search needs)
-    (λ c. lay-then (c .before .before .before .before .before .before .before .before .before .before .before .before .before .before .before .before .before .before .before .before .before .before .before .before .before .before .lay-when .ensures) (lay-then (c .before .before .before .before .before .before .before .before .before .before .before .before .before .before .before .before .before .before .before .before .before .before .lay-when2 .ensures) (lay-then (c .before .before .before .before .before .before .before .before .before .before .before .before .before .before .before .before .before .before .lay-when3 .ensures) (lay-then (c .before .before .before .before .before .before .before .before .before .before .before .before .before .before .lay-when4 .ensures) (lay-then (c .before .before .before .before .before .before .before .before .before .before .lay-when5 .ensures) (lay-then (c .before .before .before .before .before .before .lay-when6 .ensures) (c .before .before .lay-when7 .ensures))))))))
+    (λ c. lay-then (c .before .before .before .before .before .before .before .before .before .before .before .before .before .before .before .before .before .before .before .before .before .before .before .before .before .before .lay-stop-if .ensures) (lay-then (c .before .before .before .before .before .before .before .before .before .before .before .before .before .before .before .before .before .before .before .before .before .before .lay-stop-if2 .ensures) (lay-then (c .before .before .before .before .before .before .before .before .before .before .before .before .before .before .before .before .before .before .lay-stop-if3 .ensures) (lay-then (c .before .before .before .before .before .before .before .before .before .before .before .before .before .before .lay-stop-if4 .ensures) (lay-then (c .before .before .before .before .before .before .before .before .before .before .lay-stop-if5 .ensures) (lay-then (c .before .before .before .before .before .before .lay-stop-if6 .ensures) (c .before .before .lay-stop-if7 .ensures))))))))

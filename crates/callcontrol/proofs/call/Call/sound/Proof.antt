@@ -1,4 +1,4 @@
--- The four tests, each where those before it hold.
+-- The first two tests, each where those before it hold, and then the other two at once.
 use borrow.Author.Needs.{needs}
 use borrow.Author.Tests.{not-true, not-false}
 use Rattle.callcontrol.specs.Call.{sound}
@@ -15,6 +15,5 @@ sound-spec =
     (λ c κs. search needs)
     (λ c. rw (← c .before .before .before .in-range .ensures, not-false (c .before .before .before .in-range .result) (c .before .before .if1 .left), ← c .before .idle-is-fresh .ensures, not-true (c .before .idle-is-fresh .result) (c .if2 .taken)))
     (λ c κs. search needs)
-    (λ c. rw (← c .before .before .before .before .before .in-range .ensures, not-false (c .before .before .before .before .before .in-range .result) (c .before .before .before .before .if1 .left), ← c .before .before .before .idle-is-fresh .ensures, not-false (c .before .before .before .idle-is-fresh .result) (c .before .before .if2 .left), ← c .before .timers-agree .ensures, not-true (c .before .timers-agree .result) (c .if3 .taken)))
     (λ c κs. search needs)
-    (λ c. rw (← c .before .before .before .before .before .before .in-range .ensures, not-false (c .before .before .before .before .before .before .in-range .result) (c .before .before .before .before .before .if1 .left), ← c .before .before .before .before .idle-is-fresh .ensures, not-false (c .before .before .before .before .idle-is-fresh .result) (c .before .before .before .if2 .left), ← c .before .before .timers-agree .ensures, not-false (c .before .before .timers-agree .result) (c .before .if3 .left)) (c .state-agrees .ensures)))
+    (λ c. rw (← c .before .before .before .before .before .in-range .ensures, not-false (c .before .before .before .before .before .in-range .result) (c .before .before .before .before .if1 .left), ← c .before .before .before .idle-is-fresh .ensures, not-false (c .before .before .before .idle-is-fresh .result) (c .before .before .if2 .left), c .before .timers-agree .ensures, c .state-agrees .ensures)))
