@@ -1,6 +1,6 @@
 // The row of an event from the table: where the call is and what holds, the first row that fits, and what that row says.
 ghost use mathlib.Core.Path.{_≡_};
-ghost use Prim.Native.Nat.{_<_, _≤_, _+_, _*_, _/_, _%_};
+ghost use Prim.Native.Nat.{_<_, _≤_, _+_, _*_, _/_, _%_, _^_};
 ghost use mathlib.Core.Bool.{true, cond, not};
 ghost use lib.Dec.{leb, eqb};
 ghost use Rattle.small.specs.Flat.{D-CONNECT-ACKNOWLEDGE, D-INFO, D-TX-INTERRUPT, EXPIRY};
@@ -13,14 +13,14 @@ use crate::flat::EXPIRY;
 use crate::flat::Flat;
 use crate::table::AFTER_G;
 use crate::table::ASKED;
-use crate::table::AT_BROKEN;
-use crate::table::AT_DISCONNECT;
-use crate::table::AT_IDLE;
-use crate::table::AT_MO;
-use crate::table::AT_MT;
-use crate::table::AT_RESTORING;
-use crate::table::AT_UP;
-use crate::table::AT_WAIT;
+use crate::table::BIT_BROKEN;
+use crate::table::BIT_DISCONNECT;
+use crate::table::BIT_IDLE;
+use crate::table::BIT_MO;
+use crate::table::BIT_MT;
+use crate::table::BIT_RESTORING;
+use crate::table::BIT_UP;
+use crate::table::BIT_WAIT;
 use crate::table::COUNT;
 use crate::table::EVENTS_G;
 use crate::table::EVENTS_SLOTS;
@@ -57,34 +57,34 @@ use callcontrol::rows::plane_or_off;
 use callcontrol::rows::restarting;
 use callcontrol::rows::slots_after;
 
-// Where the call is, one bit of a row.
-pub fn situation(call: Call) -> u64
-    ensures { λ r. ⌜ r ≡ situationOf call ⌝ }
-    ensures { λ r. ⌜ 0 < r ⌝ }
+// Where the call is, by the number of its bit in a row.
+pub fn situation(call: Call) -> usize
+    ensures { λ r. ⌜ 2 ^ r ≡ situationOf call ⌝ }
+    ensures { λ r. ⌜ r < 64 ⌝ }
 {
     let state = call.state;
     let path = call.path;
     match state {
-        State::Idle => AT_IDLE,
-        State::MoCallSetup => AT_MO,
-        State::MtCallSetup => AT_MT,
+        State::Idle => BIT_IDLE,
+        State::MoCallSetup => BIT_MO,
+        State::MtCallSetup => BIT_MT,
         State::CallActive => match path {
-            Path::Up => AT_UP,
-            Path::Broken => AT_BROKEN,
-            Path::Restoring => AT_RESTORING,
+            Path::Up => BIT_UP,
+            Path::Broken => BIT_BROKEN,
+            Path::Restoring => BIT_RESTORING,
         },
-        State::Wait => AT_WAIT,
-        State::CallDisconnect => AT_DISCONNECT,
+        State::Wait => BIT_WAIT,
+        State::CallDisconnect => BIT_DISCONNECT,
     }
 }
 
 // Whether a row is for this place, event and these facts.
-fn fits(row: u64, situation: u64, kind: u64, facts: &[bool; 8]) -> bool
-    requires { ⌜ 0 < situation ⌝ }
-    ensures { λ r. ⌜ r ≡ fits situation kind (now (facts .entry)) row ⌝ }
+fn fits(row: u64, situation: usize, kind: u64, facts: &[bool; 8]) -> bool
+    requires { ⌜ situation < 64 ⌝ }
+    ensures { λ r. ⌜ r ≡ fits (2 ^ situation) kind (now (facts .entry)) row ⌝ }
 {
     if row / ON % KINDS == kind {
-        if row / situation % 2 == 1 {
+        if (row >> situation) % 2 == 1 {
             let guard = (row / IF) as usize;
             return facts[guard];
         }
@@ -93,9 +93,9 @@ fn fits(row: u64, situation: u64, kind: u64, facts: &[bool; 8]) -> bool
 }
 
 // The first row that fits, or 0.
-pub fn found(situation: u64, kind: u64, facts: &[bool; 8]) -> u64
-    requires { ⌜ 0 < situation ⌝ }
-    ensures { λ r. ⌜ r ≡ firstOf situation kind (now (facts .entry)) rows ⌝ }
+pub fn found(situation: usize, kind: u64, facts: &[bool; 8]) -> u64
+    requires { ⌜ situation < 64 ⌝ }
+    ensures { λ r. ⌜ r ≡ firstOf (2 ^ situation) kind (now (facts .entry)) rows ⌝ }
 {
     let mut k = kind as usize;
     while k < COUNT {

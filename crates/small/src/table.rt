@@ -92,6 +92,23 @@ pub const AT_WAIT: u64 = 0x40000000000000;
 
 pub const AT_DISCONNECT: u64 = 0x80000000000000;
 
+// The numbers of these bits, by which a row is shifted: a division by a number that the compiler does not know is slow.
+pub const BIT_IDLE: usize = 48;
+
+pub const BIT_MO: usize = 49;
+
+pub const BIT_MT: usize = 50;
+
+pub const BIT_UP: usize = 51;
+
+pub const BIT_BROKEN: usize = 52;
+
+pub const BIT_RESTORING: usize = 53;
+
+pub const BIT_WAIT: usize = 54;
+
+pub const BIT_DISCONNECT: usize = 55;
+
 // Every state but IDLE and CALL-DISCONNECT, on every path.
 pub const AT_CALL: u64 = AT_MO + AT_MT + AT_UP + AT_BROKEN + AT_RESTORING + AT_WAIT;
 

@@ -1,5 +1,5 @@
 -- The rows before k do not fit.
-use Prim.Native.Nat.{ℕ, suc, _+_, _-_, _≤_, _<_}
+use Prim.Native.Nat.{ℕ, suc, _+_, _-_, _^_, _≤_, _<_}
 use mathlib.Core.Path.{_≡_, refl, sym, _∙_}
 use native.Mathlib.Omega.{arith}
 use lib.ListN.{length, getD}
@@ -13,7 +13,7 @@ use Rattle.small.proofs.rows.found.Statement.{statement}
 use Rattle.small.proofs.rows.found.Tie as tie
 
 abbrev Inv-loop : tie.InvT-loop
-Inv-loop situation kind facts k₀ k = firstOf situation kind facts (after k rows) ≡ firstOf situation kind facts rows
+Inv-loop situation kind facts k₀ k = firstOf (2 ^ situation) kind facts (after k rows) ≡ firstOf (2 ^ situation) kind facts rows
 
 abbrev μ-loop : tie.MeasureT-loop
 μ-loop situation kind facts k₀ k = 38 - k
@@ -31,7 +31,7 @@ loop-holds : tie.Need-loop-holds Inv-loop μ-loop
 unfolding rows above
 loop-holds c =
     let a = c .args in
-    skipped (a .situation) (a .kind) (now (a .facts)) 0 (a .kind) rows refl (omega arith)
+    skipped (2 ^ a .situation) (a .kind) (now (a .facts)) 0 (a .kind) rows refl (omega arith)
 
 returns : tie.Need-returns Inv-loop μ-loop
 returns c =
@@ -40,7 +40,7 @@ returns c =
     let row = c .before .before .row-at in
     let below : l .loop .k < 38 = omega arith in
     let fit = rw (row .ensures) at (c .before .fits2 .ensures) in
-    rw (row .ensures) (sym (past (a .situation) (a .kind) (now (a .facts)) (l .loop .k) true below (rw (← fit) (c .if1 .taken))) ∙ l .loop .inv)
+    rw (row .ensures) (sym (past (2 ^ a .situation) (a .kind) (now (a .facts)) (l .loop .k) true below (rw (← fit) (c .if1 .taken))) ∙ l .loop .inv)
 
 loop-again : tie.Need-loop-again Inv-loop μ-loop
 loop-again c =
@@ -50,14 +50,14 @@ loop-again c =
     let below : l .loop .k < 38 = omega arith in
     let fit = rw (row .ensures) at (c .before .fits2 .ensures) in
     let next : l .loop .k + 1 ≡ suc (l .loop .k) = omega arith in
-    rw next (sym (past (a .situation) (a .kind) (now (a .facts)) (l .loop .k) false below (rw (← fit) (c .if1 .left))) ∙ l .loop .inv)
+    rw next (sym (past (2 ^ a .situation) (a .kind) (now (a .facts)) (l .loop .k) false below (rw (← fit) (c .if1 .left))) ∙ l .loop .inv)
 
 returns-2 : tie.Need-returns-2 Inv-loop μ-loop
 returns-2 c =
     let l = c .before in
     let a = l .before .args in
     let end : 38 ≤ l .loop .k = omega arith in
-    sym (none-after (a .situation) (a .kind) (now (a .facts)) (l .loop .k) rows (rw long end)) ∙ l .loop .inv
+    sym (none-after (2 ^ a .situation) (a .kind) (now (a .facts)) (l .loop .k) rows (rw long end)) ∙ l .loop .inv
 
 pub found-spec : {M : Type 1} → statement M
 found-spec =
