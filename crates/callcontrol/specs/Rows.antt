@@ -1,4 +1,4 @@
--- The steps: for each situation, what each event does. One function a situation, a line for each of the 24 events. Beside a row
+-- The steps: for each situation, what each event does. One function a situation, a line for each of the 23 events. Beside a row
 -- stands its clause of EN 300 392-2, or H for a house choice.
 use Prim.Native.Nat.{ℕ}
 use mathlib.Core.Bool.{Bool, true, false, cond, not, _&&_, _||_}

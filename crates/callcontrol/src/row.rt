@@ -17,7 +17,7 @@ pub struct Row {
     pub asked: u8,
     pub code: u8,
     pub slots: u8,
-    // What a message tells beside that: a cause, a grant, a mode, how a transmission stands, or the slots that a SETUP request carries.
+    // What a message tells beside that: a cause, a grant, how a transmission stands, or the slots that a SETUP request carries.
     pub value: u8,
 }
 

@@ -1,5 +1,6 @@
 -- Where each answer applies, each told without a look at those before it. Document 02, request 8: "first 1 .. record answers 2, 3 and 4; then 40 ..; 41
--- ..; 42 ..; 43 ..; 5, no place fits; then the step's own". From 40 on they speak of an event, so of bytes that are one.
+-- ..; 42 ..; 43 ..; 5, no place fits; then the step's own". From 40 on they speak of an event, so of bytes that are one; and 6, 8 and 7 of where it goes,
+-- so that they do not apply to an event that is refused by then.
 use Prim.Native.Nat.{ℕ}
 use mathlib.Core.Path.{_≡_}
 use mathlib.Core.Bool.{Bool, false, cond, not, _&&_}

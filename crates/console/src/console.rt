@@ -124,7 +124,7 @@ fn at_place(calls: [Call; 8], k: usize, event: Event, buffer: &mut [u8]) -> Cons
 }
 
 // The turn of one place, where there is room for what it writes: behind what the places in front of it write. A place that does not take the event stays as it is.
-pub fn turn(call: Call, k: usize, event: Event, passed: SoFar, own: &mut [u8]) -> Turned
+pub(crate) fn turn(call: Call, k: usize, event: Event, passed: SoFar, own: &mut [u8]) -> Turned
     requires { ⌜ (aimOf event ≡ Aim.Every) × (k < 8) × (passed .size + length (bytesOf (part k call event)) ≤ length (now own)) ⌝ }
     ensures { λ r. ⌜ (r .call ≡ nextOf event call) × OneMore (r .upto) (r .size) (now (own .exit)) k call event passed (now (own .entry)) ⌝ }
 {
@@ -156,7 +156,7 @@ pub fn own_buffer() -> [u8; 184]
 }
 
 // An event for every place that would take it: laid in a buffer of our own first, and copied only where all of it fits.
-pub fn everywhere(calls: [Call; 8], event: Event, buffer: &mut [u8]) -> ConsoleStepped
+fn everywhere(calls: [Call; 8], event: Event, buffer: &mut [u8]) -> ConsoleStepped
     requires { ⌜ aimOf event ≡ Aim.Every ⌝ }
     ensures { λ r. ⌜ asConsole r (now (buffer .exit)) ≡ everywhere calls event (now (buffer .entry)) ⌝ }
 {
