@@ -6,9 +6,12 @@
 # compiler then compiles that module with the same options, but for this machine.
 # Use: tests/at_hand.sh [COMMAND ..], as in
 #   tests/at_hand.sh cargo run --release --offline --manifest-path tests/Cargo.toml --bin bench
+# CALLCONTROL_MACHINE names another machine, of which tests/size.sh can then tell the sizes:
+#   CALLCONTROL_MACHINE=aarch64 tests/at_hand.sh tests/size.sh
 set -e
 root=$(cd "$(dirname "$0")/.." && pwd)
 machine=$(uname -m)
+target=${CALLCONTROL_MACHINE:-$machine}
 kit=${RATTLE_HOME:-$(dirname "$(dirname "$(readlink -f "$(command -v rt)")")")}
 own=$kit/on/$machine
 made=$root/target/at-hand
@@ -42,8 +45,8 @@ for name in $("$root/tests/archives.sh"); do
     cd "$made"
     while IFS= read -r option; do
         case $option in
-        --target=*) option=--target=$machine-unknown-linux-gnu ;;
-        -march=*) [ "$machine" = x86_64 ] || continue ;;
+        --target=*) option=--target=$target-unknown-linux-gnu ;;
+        -march=*) [ "$target" = x86_64 ] || continue ;;
         esac
         printf '%s\n' "$option"
     done <options >options.here

@@ -14,13 +14,17 @@ for archive in host host_console host_direct host_small; do
         exit 1
     fi
 done
-# The library that is shipped is x86-64 code; one of tests/at_hand.sh is for the machine at hand.
+# The library that is shipped is x86-64 code; one of tests/at_hand.sh is for the machine at hand, or for the one that it was told.
 machine=$(ar p "$folder/libhost.a" | od -An -tu2 -j18 -N2 | tr -d ' ')
 case $machine.$(uname -m) in
 62.x86_64 | 183.aarch64) cross= ;;
 62.*)
     echo 'The account in Rust cannot be built for x86-64 here: the library is measured beside plain C alone.'
     cross=x86_64-linux-gnu-
+    ;;
+183.*)
+    echo 'The account in Rust cannot be built for Arm here: the library is measured beside plain C alone.'
+    cross=aarch64-linux-gnu-
     ;;
 *)
     echo "$folder/libhost.a is for another machine" >&2
@@ -177,7 +181,7 @@ apart() { # archive, which options, column
 echo
 if [ -f "$kept/host.bc" ] && [ -f "$kept/host_small.bc" ]; then
     options=shipped
-    [ -n "$cross" ] || [ "$(uname -m)" = x86_64 ] || options=here
+    [ "$machine" = 62 ] || options=here
     apart host "$options" 1
     apart host_small "$options" 2
     ${cross}gcc -std=gnu11 -Os -fno-inline -ffunction-sections -fdata-sections -w -c "$here/yardstick/step.c" -o "$work/apart.o"
@@ -192,7 +196,7 @@ if [ -f "$kept/host.bc" ] && [ -f "$kept/host_small.bc" ]; then
             if (name ~ /^(records::(bodies|fields|letters|events)|small::reading|read_event|timer_bit|u16_at|u32_at)$/) return 2
             if (name ~ /^(callcontrol::rows?|small::(rows|table)|row)$/) return 3
             if (name ~ /^(callcontrol::settle|stop|start|start_t310|store_slots|configure|grant|grant_or_off|release|end_call|pdu|user|tx_indication)$/) return 4
-            if (name ~ /^(callcontrol::writing|records::messages|small::laying|bytes.*|written|lay|lay_one|put16|put32|__popcountdi2)$/) return 5
+            if (name ~ /^(callcontrol::writing|records::(messages|lines|message_lines)|small::laying|bytes.*|written|lay|lay_one|put16|put32|__popcountdi2)$/) return 5
             if (name ~ /^(callcontrol(::step)?|small|host|host_small|callcontrol_step|plain_step)$/) return 6
             return name == "constants" ? 7 : 8
         }

@@ -156,7 +156,7 @@ pub fn own_buffer() -> [u8; 184]
 }
 
 // An event for every place that would take it: laid in a buffer of our own first, and copied only where all of it fits.
-fn everywhere(calls: [Call; 8], event: Event, buffer: &mut [u8]) -> ConsoleStepped
+pub(crate) fn everywhere(calls: [Call; 8], event: Event, buffer: &mut [u8]) -> ConsoleStepped
     requires { ⌜ aimOf event ≡ Aim.Every ⌝ }
     ensures { λ r. ⌜ asConsole r (now (buffer .exit)) ≡ everywhere calls event (now (buffer .entry)) ⌝ }
 {
