@@ -44,7 +44,7 @@ held t c (v0 ∷ vs) = refl
 pub alike-set : (t c : ℕ) (v : List ℕ) → Alike (set (set v 6 t) 7 c) v
 unfolding valuesFor
 alike-set t c v =
-    record { is = λ k. rw (held t c v) (again t c (timerAt (k % 9)) (cond (eqb k 14) (getD v 0 0) 0) v) }
+    record { is = λ k. rw (held t c v) (again t c (timerAt (k % 9)) _ v) }
 
 pub alike-refl : (v : List ℕ) → Alike v v
 alike-refl v = record { is = λ k. refl }

@@ -46,3 +46,20 @@ skipped s k fs p (suc i) (n ∷ ns) t h =
     let parts = both (leb (n / 0x100000000000000 % 32) p) (above (suc p) ns) t in
     let low : n / 0x100000000000000 % 32 ≤ p = leb-true _ _ (parts .0) in
     rw (ne-eqb (n / 0x100000000000000 % 32) k (λ z. absurd (omega (arith, low)))) (skipped s k fs (suc p) i ns (parts .1) (omega arith))
+
+pub past-end : (ns : List ℕ) (i : ℕ) → length ns ≤ i → getD ns i 0 ≡ 0
+past-end [] i h = refl
+past-end (n ∷ ns) zero h = absurd (not-suc-le-zero h)
+past-end (n ∷ ns) (suc i) h = past-end ns i (le-of-suc-le-suc h)
+
+-- what is none of the first numbers
+abbrev pub Not : ℕ → ℕ → Type 0
+Not zero k = Unit {0}
+Not (suc n) k = Not n k × (k ≡ n → ⊥)
+
+next : (n k : ℕ) → n ≤ k → (k ≡ n → ⊥) → suc n ≤ k
+next n k h d = omega arith
+
+pub not-below : (n k : ℕ) → Not n k → n ≤ k
+not-below zero k r = omega arith
+not-below (suc n) k r = next n k (not-below n k (r .0)) (r .1)

@@ -136,12 +136,35 @@ const MESSAGES: [u32; 22] = [
     IS_U_SETUP + 11 * SIZE + A + D * SECOND + Q * THIRD + TOLD * FOURTH,
 ];
 
-// A message by its number. The array is used in this function alone, so that the compiler makes one static table of it.
+// A message by its number, none behind the last. `MESSAGES[n]` would build the array on the stack; of these arms the compiler makes one static table.
 fn message_at(n: usize) -> u32
-    requires { ⌜ n < 22 ⌝ }
     ensures { λ r. ⌜ r ≡ getD entries n 0 ⌝ }
 {
-    MESSAGES[n]
+    match n {
+        0 => MESSAGES[0],
+        1 => MESSAGES[1],
+        2 => MESSAGES[2],
+        3 => MESSAGES[3],
+        4 => MESSAGES[4],
+        5 => MESSAGES[5],
+        6 => MESSAGES[6],
+        7 => MESSAGES[7],
+        8 => MESSAGES[8],
+        9 => MESSAGES[9],
+        10 => MESSAGES[10],
+        11 => MESSAGES[11],
+        12 => MESSAGES[12],
+        13 => MESSAGES[13],
+        14 => MESSAGES[14],
+        15 => MESSAGES[15],
+        16 => MESSAGES[16],
+        17 => MESSAGES[17],
+        18 => MESSAGES[18],
+        19 => MESSAGES[19],
+        20 => MESSAGES[20],
+        21 => MESSAGES[21],
+        _ => NO_MESSAGE,
+    }
 }
 
 // How many U-PDUs and user primitives there are, and the numbers of the messages behind them.

@@ -3,7 +3,6 @@
 // first row that fits is taken, so a row with a condition stands before the one without. What the event alone says is in no row: which
 // timer expired, whether T310 starts anew (r of D-INFO and D-CALL RESTORE), and the slots, which are stored where it brings some.
 ghost use mathlib.Core.Path.{_≡_};
-ghost use Prim.Native.Nat.{_<_};
 ghost use lib.ListN.{getD};
 ghost use Rattle.small.specs.Table.{rows};
 use crate::flat::BREAK;
@@ -346,10 +345,50 @@ const ROWS: [u64; COUNT] = [
     AT_UP + ON_EXPIRY_311 + STAY + U_TX_CEASED + PLANE_OFF,
 ];
 
-// A row by its place. The array is used in this function alone, so that the compiler makes one static table of it.
+// A row by its place, 0 behind the last. `ROWS[k]` would build the array on the stack at each use; of these arms the compiler makes one static
+// table.
 pub fn row_at(k: usize) -> u64
-    requires { ⌜ k < 38 ⌝ }
     ensures { λ r. ⌜ r ≡ getD rows k 0 ⌝ }
 {
-    ROWS[k]
+    match k {
+        0 => ROWS[0],
+        1 => ROWS[1],
+        2 => ROWS[2],
+        3 => ROWS[3],
+        4 => ROWS[4],
+        5 => ROWS[5],
+        6 => ROWS[6],
+        7 => ROWS[7],
+        8 => ROWS[8],
+        9 => ROWS[9],
+        10 => ROWS[10],
+        11 => ROWS[11],
+        12 => ROWS[12],
+        13 => ROWS[13],
+        14 => ROWS[14],
+        15 => ROWS[15],
+        16 => ROWS[16],
+        17 => ROWS[17],
+        18 => ROWS[18],
+        19 => ROWS[19],
+        20 => ROWS[20],
+        21 => ROWS[21],
+        22 => ROWS[22],
+        23 => ROWS[23],
+        24 => ROWS[24],
+        25 => ROWS[25],
+        26 => ROWS[26],
+        27 => ROWS[27],
+        28 => ROWS[28],
+        29 => ROWS[29],
+        30 => ROWS[30],
+        31 => ROWS[31],
+        32 => ROWS[32],
+        33 => ROWS[33],
+        34 => ROWS[34],
+        35 => ROWS[35],
+        36 => ROWS[36],
+        37 => ROWS[37],
+        _ => 0,
+    }
 }
