@@ -41,6 +41,29 @@ SameArchive =
 abbrev pub RunIsHosts : Type 0
 RunIsHosts = (x : Archive) → Promised x → (s : List ℕ) (ts : List Turn) → archiveAfter x s ts ≡ after s ts
 
+-- what an archive's entries may leave: fresh of the record's bytes, and a step of them in a turn
+pub record Leaves : Type 1 where
+  pub fresh : List ℕ → ℕ × List ℕ → Type 0
+  pub step : List ℕ → Turn → Left → Type 0
+
+-- they leave nothing but what the promises allow
+pub record Keeps (x : Leaves) : Type 0 where
+  pub fresh : (s : List ℕ) (w : ℕ × List ℕ) → x .fresh s w → w ≡ freshened s
+  pub step : (s : List ℕ) (t : Turn) (l : Left) → x .step s t l → l ≡ hostStep s (t .event) (t .buffer)
+
+-- some turns over the bytes, in each anything that may be left, and the bytes that the last of them left
+pub data RunBy (x : Leaves) : List ℕ → List Turn → List ℕ → Type 0 where
+  none : {s : List ℕ} → RunBy x s [] s
+  turn : {s last : List ℕ} {t : Turn} {ts : List Turn} {l : Left} → x .step s t l → RunBy x (l .call) ts last → RunBy x s (t ∷ ts) last
+
+-- whatever the entries of either archive leave, call after call from the fresh record on, the run of the second is the run of the first, and both are
+-- host's: after any turns the same bytes, and in any turn after them the same result and the same lent bytes
+abbrev pub OneRun : Type 1
+OneRun =
+    (first second : Leaves) → Keeps first → Keeps second → (s one other : List ℕ) (w₁ w₂ : ℕ × List ℕ) (ts : List Turn) →
+    first .fresh s w₁ → second .fresh s w₂ → RunBy first (w₁ .1) ts one → RunBy second (w₂ .1) ts other →
+    (one ≡ after s ts) × (other ≡ after s ts) × ((t : Turn) (l₁ l₂ : Left) → first .step one t l₁ → second .step other t l₂ → l₁ ≡ l₂)
+
 -- they are those of the record of the step's run
 abbrev pub RunIsPacked : Type 0
 RunIsPacked = (x : Archive) → Promised x → (s : List ℕ) (ts : List Turn) → length s ≡ 22 → archiveAfter x s ts ≡ packed (run freshCall ts)
