@@ -22,7 +22,7 @@ const STEPS_DAMAGED_EVENT: usize = 2_000_000;
 const STEPS_IN_ALL: u64 = THREADS
     * (STEPS_FROM_FRESH + STEPS_OUT_OF_REACH + STEPS_DAMAGED_RECORD + STEPS_DAMAGED_EVENT) as u64;
 
-const _: () = assert!(STEPS_IN_ALL >= 20_000_000);
+const _: () = assert!(STEPS_IN_ALL >= 25_000_000);
 
 /// Steps seen, by answer.
 type Answers = [u64; 10];

@@ -231,11 +231,9 @@ impl Side {
     fn expect(&self, queue: &mut Queue, bytes: &[u8], expected: Expected) {
         let filler = 0xC3u8.wrapping_add(bytes.len() as u8);
         self.expect_of_reader(queue, bytes, expected);
-        // The second engine reads events by a table of its own: so both take them as the account does.
         if self.check == Function::CheckEvent {
-            for state in State::ALL {
-                let identifier = u16::from(state != State::Idle);
-                let call = Call { state, identifier, ..Call::FRESH };
+            for state in State::ALL.into_iter().filter(|&state| state != State::Idle) {
+                let call = Call { state, identifier: 1, ..Call::FRESH };
                 queue.step(&call.pack(), bytes, 64, filler);
             }
         }
@@ -258,8 +256,14 @@ impl Side {
         }
     }
 
+    /// An event is handed to the step too: the second engine reads it by a table of its own.
     fn expect_of_reader(&self, queue: &mut Queue, bytes: &[u8], expected: Expected) {
         let filler = 0xC3u8.wrapping_add(bytes.len() as u8);
+        if self.check == Function::CheckEvent {
+            let step = queue.step(&Call::FRESH.pack(), bytes, 64, filler);
+            let read = if matches!(step.answer, 5 | 6) { 0 } else { step.answer };
+            assert_eq!((read, step.place as usize), expected, "a step reads as the reader does");
+        }
         queue.check(&Request::check(self.check, bytes, filler), |_, bytes, _| {
             assert_eq!((self.account_check)(bytes), word(expected), "account's {}", self.name);
             word(expected)
