@@ -65,7 +65,10 @@ pub fn stack_used_with(archives: &[&str], source: &str, tape: &[u8]) -> usize {
     let program = env::temp_dir().join(format!("{name}-{}-{}", archives.len(), std::process::id()));
     let strict = ["-std=gnu11", "-O2", "-Wall", "-Wextra", "-Werror"];
     build_with(archives, CC, &strict, source, &program);
-    let ran = run_within(run(&program), Some(tape), &LIMITS);
+    // Names are found at the start: what the loader uses at a first call of memcpy is not the library's.
+    let mut command = run(&program);
+    command.env("LD_BIND_NOW", "1");
+    let ran = run_within(command, Some(tape), &LIMITS);
     for file in [&program, &program.with_extension("o")] {
         let _ = std::fs::remove_file(file);
     }
