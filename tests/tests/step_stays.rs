@@ -1,13 +1,17 @@
 //! The code and the stack of `callcontrol_step` in the archive of a set with one call stay what they
-//! were with requests 9 and 12 in: an entry that weighs on them belongs into another archive.
+//! were with every request in and messages by line: an entry that weighs on them belongs into another
+//! archive. So does the code of a console's two entries.
 
 use callcontrol_tests::library::BRIDGED;
 use callcontrol_tests::programs::{code_of, stack_used};
 use callcontrol_tests::tape::tape;
 
 /// Bytes that a program has more for naming `callcontrol_step`, and bytes of stack of a step.
-const CODE: usize = 9880;
-const STACK: usize = 393;
+const CODE: usize = 9336;
+const STACK: usize = 371;
+
+/// Bytes that a program has more for naming a console's two entries.
+const CONSOLE: usize = 15541;
 
 /// As measured, and 2 % more.
 fn held(what: &str, bytes: usize, measured: usize) {
@@ -36,5 +40,13 @@ fn the_code_of_a_step_stays() {
 fn the_stack_of_a_step_stays() {
     if shipped() {
         held("stack", stack_used("tests/bridge/stack.c", &tape().with_lengths()), STACK);
+    }
+}
+
+#[test]
+fn the_code_of_a_console_stays() {
+    if shipped() {
+        let both = ["callcontrol_console_fresh", "callcontrol_console_step"];
+        held("code", code_of("host_console", &both), CONSOLE);
     }
 }
