@@ -3,7 +3,7 @@ ghost use Rattle.std.specs.Prelude.{◌≡◌};
 ghost use Rattle.callcontrol.specs.Call.{◌⇒◌, fresh_call, is_idle, is_active, is_wait, is_up, is_restoring, transmits, state_number, path_number, may_lack_id, all_stopped, in_range, as_fresh, timers_agree, state_agrees, sound};
 
 // Where the call is. The numbers are those of a host's record.
-#[derive(Drop)]
+#[derive(Clone, Copy)]
 pub enum State {
     // 0 IDLE: no call.
     Idle,
@@ -20,7 +20,7 @@ pub enum State {
 }
 
 // The radio path of a connected call.
-#[derive(Drop)]
+#[derive(Clone, Copy)]
 pub enum Path {
     // 0 up: the path is there.
     Up,
@@ -30,7 +30,7 @@ pub enum Path {
     Restoring,
 }
 
-#[derive(Drop)]
+#[derive(Clone, Copy)]
 pub struct Call {
     pub state: State,
     // The call's identifier, 0 while it has none.

@@ -2,7 +2,7 @@
 use crate::call::Call;
 use crate::row::Row;
 
-#[derive(Drop)]
+#[derive(Clone, Copy)]
 pub struct Drafted {
     pub call: Call,
     pub stops: [bool; 7],

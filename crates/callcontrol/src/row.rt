@@ -8,7 +8,7 @@ use crate::call::Call;
 
 // The address stands before the identifier because the compiler copies such a row field by field; the other way round it copies eight
 // bytes at once and takes them apart again, which costs a fifth of the code.
-#[derive(Drop)]
+#[derive(Clone, Copy)]
 pub struct Row {
     // The sum, 0 where there is no row.
     pub orders: u64,

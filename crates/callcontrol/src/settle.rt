@@ -19,7 +19,7 @@ pub(crate) fn has(orders: u64, bit: u64) -> bool
 }
 
 // The timers that run, and the orders to stop and to start some.
-#[derive(Drop)]
+#[derive(Clone, Copy)]
 pub struct Timing {
     pub running: [bool; 7],
     pub stops: [bool; 7],

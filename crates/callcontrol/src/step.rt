@@ -11,7 +11,7 @@ use crate::writing::{lay_messages, messages_size};
 use records::events::{Event, EventRead, read_event};
 
 // What comes back.
-#[derive(Drop)]
+#[derive(Clone, Copy)]
 pub enum Answer {
     // 0: taken.
     Taken,
@@ -55,7 +55,7 @@ pub fn answer_number(answer: Answer) -> u8
 }
 
 // The answer, the place that comes with 4, the count of bytes written and the next record.
-#[derive(Drop)]
+#[derive(Clone, Copy)]
 pub struct Stepped {
     pub answer: Answer,
     pub place: u8,
@@ -76,7 +76,7 @@ pub fn refuse(answer: Answer, place: u8, call: Call) -> Stepped
 }
 
 // The identifier that an event names a call by.
-#[derive(Drop)]
+#[derive(Clone, Copy)]
 pub enum Named {
     Id(u16),
     NoCall,

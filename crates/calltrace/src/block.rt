@@ -9,7 +9,7 @@ use callcontrol::call::Call;
 use callcontrol::step::{answer_number, step};
 
 // What stands at a position.
-#[derive(Drop)]
+#[derive(Clone, Copy)]
 pub enum Ahead {
     // A whole record, of so many bytes.
     Whole(usize),
@@ -20,7 +20,7 @@ pub enum Ahead {
 }
 
 // Why the lines of a block stop.
-#[derive(Drop)]
+#[derive(Clone, Copy)]
 pub enum Pause {
     // There is no room for another line.
     Full,
@@ -30,7 +30,7 @@ pub enum Pause {
     Short,
 }
 
-#[derive(Drop)]
+#[derive(Clone, Copy)]
 pub struct Drained {
     // Where the next record starts.
     pub at: usize,
@@ -40,7 +40,7 @@ pub struct Drained {
     pub pause: Pause,
 }
 
-#[derive(Drop)]
+#[derive(Clone, Copy)]
 struct Turned {
     laid: usize,
     call: Call,

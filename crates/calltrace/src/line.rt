@@ -9,7 +9,7 @@ use callcontrol::call::{Call, State};
 // The most bytes that a line takes: the header's.
 pub const LINE_MOST: usize = 31;
 
-#[derive(Drop)]
+#[derive(Clone, Copy)]
 pub struct Line {
     pub answer: u8,
     pub state: State,

@@ -1,4 +1,6 @@
 // Reads event records from standard input and prints a line for what the step answers to each.
+#![tactic(auto)]
+
 ghost use Rattle.std.specs.Prelude.{◌≡◌, ◌+◌, ◌<◌, ◌≤◌, true, cond, ◌||◌, ltb, pos, length, take};
 ghost use Rattle.std.specs.Int.Signed.{lt_z};
 ghost use Rattle.io.specs.Counts.{clamp_len};
@@ -21,7 +23,7 @@ fn input_block() -> [u8; 131072]
 }
 
 // What a trace comes to. The counts are there for the promise, which speaks of all that was read and written.
-#[derive(Drop)]
+#[derive(Clone, Copy)]
 struct InHand {
     // How many bytes were read.
     read: usize,
@@ -38,21 +40,21 @@ struct InHand {
 }
 
 // What a read came to.
-#[derive(Drop)]
+#[derive(Clone, Copy)]
 struct Came {
     count: usize,
     failed: bool,
 }
 
 // What writing the last lines came to: how many bytes of them were due, and how many of these the C library took.
-#[derive(Drop)]
+#[derive(Clone, Copy)]
 struct LastLines {
     due: usize,
     done: usize,
 }
 
 // How many bytes were handed on of the complaint about the input, and of the one about the output.
-#[derive(Drop)]
+#[derive(Clone, Copy)]
 struct Complaints {
     input: usize,
     output: usize,

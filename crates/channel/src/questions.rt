@@ -12,7 +12,7 @@ use callcontrol::step::{Answer, answer_number};
 use records::messages::{Message, lay_message, message_size};
 
 // What comes back.
-#[derive(Drop)]
+#[derive(Clone, Copy)]
 pub enum ChannelAnswer {
     // 0: taken; what is written is counted.
     Taken,
@@ -49,7 +49,7 @@ pub fn channel_number(answer: ChannelAnswer) -> u8
 }
 
 // The answer, the count of bytes written and the rooms.
-#[derive(Drop)]
+#[derive(Clone, Copy)]
 pub struct Answered {
     pub answer: ChannelAnswer,
     pub count: usize,
@@ -57,7 +57,7 @@ pub struct Answered {
 }
 
 // What a question gets: a verdict at once (0 accept, 1 reject, 2 ignore), a room to wait in, or neither, the rule being open.
-#[derive(Drop)]
+#[derive(Clone, Copy)]
 pub enum Reply {
     Now(u8),
     Waits(Wait),
@@ -65,7 +65,7 @@ pub enum Reply {
 }
 
 // What is asked.
-#[derive(Drop)]
+#[derive(Clone, Copy)]
 pub enum Asked {
     Is(Reply),
     Unknown,
@@ -92,7 +92,7 @@ fn asked_of(asked: u8) -> Asked
 }
 
 // What a decision is for, and the verdict that it gives.
-#[derive(Drop)]
+#[derive(Clone, Copy)]
 pub enum Decision {
     Gives { wait: Wait, verdict: u8 },
     Unknown,

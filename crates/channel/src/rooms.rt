@@ -3,7 +3,7 @@ ghost use Rattle.std.specs.Prelude.{◌≡◌, ◌<◌, ◌≤◌};
 ghost use Rattle.channel.specs.Rooms.{wait_number, is_free, has_number, waits_for, of_call, room_fits, free_room, fresh_rooms, some?, apart_from, rooms_sound, first, freed};
 
 // What a question waits for.
-#[derive(Drop)]
+#[derive(Clone, Copy)]
 pub enum Wait {
     // 0: nothing waits here.
     Nobody,
@@ -14,7 +14,7 @@ pub enum Wait {
 }
 
 // A room: the number of the question that waits there, the call of the PDU that brought it, and what it waits for. All of a free room is 0.
-#[derive(Drop)]
+#[derive(Clone, Copy)]
 pub struct Room {
     pub wait: Wait,
     pub number: u16,

@@ -18,14 +18,14 @@ use callcontrol::step::{Answer, Stepped, answer_number, decide};
 use records::events::Event;
 
 // What the places that were passed come to: how many there are up to the last that takes the event, 0 where none does, and how many bytes they write.
-#[derive(Drop)]
+#[derive(Clone, Copy)]
 pub struct SoFar {
     pub upto: usize,
     pub size: usize,
 }
 
 // The same with one place more, and that place's record.
-#[derive(Drop)]
+#[derive(Clone, Copy)]
 pub struct Turned {
     pub upto: usize,
     pub size: usize,
@@ -33,7 +33,7 @@ pub struct Turned {
 }
 
 // The same of all eight places, and their records.
-#[derive(Drop)]
+#[derive(Clone, Copy)]
 pub struct AllStepped {
     pub upto: usize,
     pub size: usize,
@@ -41,7 +41,7 @@ pub struct AllStepped {
 }
 
 // The answer, the place that comes with 4 (an offset in the record, never one of the eight), the count of bytes written and the eight records.
-#[derive(Drop)]
+#[derive(Clone, Copy)]
 pub struct ConsoleStepped {
     pub answer: ConsoleAnswer,
     pub place: u8,

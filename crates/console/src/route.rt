@@ -10,7 +10,7 @@ use callcontrol::step::{Answer, answer_number, place_in, unread};
 use records::events::{Event, EventRead, read_event};
 
 // What comes back: the step's own answers, and those that only a console gives.
-#[derive(Drop)]
+#[derive(Clone, Copy)]
 pub enum ConsoleAnswer {
     OfStep(Answer),
     // 40: the place that is named is over 7.
@@ -38,7 +38,7 @@ pub fn console_number(answer: ConsoleAnswer) -> u8
 }
 
 // By what an event finds its place.
-#[derive(Drop)]
+#[derive(Clone, Copy)]
 pub enum Aim {
     // By the number handed in beside the record.
     Place,
@@ -52,7 +52,7 @@ pub enum Aim {
     Every,
 }
 
-#[derive(Drop)]
+#[derive(Clone, Copy)]
 pub enum Route {
     To(usize),
     Everywhere,
@@ -60,7 +60,7 @@ pub enum Route {
 }
 
 // Where the bytes of an event lead; a refusal has the offset that comes with 4.
-#[derive(Drop)]
+#[derive(Clone, Copy)]
 pub enum Led {
     To { k: usize, event: Event },
     Everywhere { event: Event },

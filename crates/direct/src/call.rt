@@ -3,7 +3,7 @@ ghost use Rattle.std.specs.Prelude.{◌≡◌};
 ghost use Rattle.direct.specs.Call.{fresh_call, as_fresh, in_limits, sound, state_number};
 
 // Where the call is. The numbers are those of a host's record.
-#[derive(Drop)]
+#[derive(Clone, Copy)]
 pub enum State {
     // 0 IDLE: no call.
     Idle,
@@ -13,7 +13,7 @@ pub enum State {
     Active,
 }
 
-#[derive(Drop)]
+#[derive(Clone, Copy)]
 pub struct Call {
     pub state: State,
     // The grade of service asked for; higher is better.

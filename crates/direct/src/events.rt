@@ -8,7 +8,7 @@ use crate::fields::{ByteField, WordField, byte_in, put_head, put_word, word_in};
 use records::bodies::{Head, Written, kind_in};
 use records::letters::{Byte, Word, byte_fits, word_fits};
 
-#[derive(Drop)]
+#[derive(Clone, Copy)]
 pub enum Event {
     // 0801 SETUP request. The user asks for a call with presence check.
     SetupRequest {
@@ -33,7 +33,7 @@ pub enum Event {
 }
 
 // What reading finds: the value, or the paper's refusals 2, 3 and 4; 4 with the place of the first wrong field, or 2 for the body's size.
-#[derive(Drop)]
+#[derive(Clone, Copy)]
 pub enum EventRead {
     Is(Event),
     BadLength,

@@ -9,13 +9,13 @@ use records::letters::{Byte, Word, byte_fits, word_fits};
 
 // What stands at a letter, at each width: its value, or a number out of its range.
 
-#[derive(Drop)]
+#[derive(Clone, Copy)]
 pub enum ByteField {
     Is(u8),
     Bad,
 }
 
-#[derive(Drop)]
+#[derive(Clone, Copy)]
 pub enum WordField {
     Is(u16),
     Bad,

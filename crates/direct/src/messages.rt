@@ -12,7 +12,7 @@ use crate::laying::{
 use records::bodies::{Head, Written, kind_in};
 use records::letters::{Byte, Word, byte_fits, word_fits};
 
-#[derive(Drop)]
+#[derive(Clone, Copy)]
 pub enum Message {
     // 0901 DM-SETUP PRES. The called set is asked whether it is there, and at which grade of service.
     DmSetupPres { target: u8, lowest: u8 },
@@ -33,7 +33,7 @@ pub enum Message {
 }
 
 // What reading finds: the value, or the paper's refusals 2, 3 and 4; 4 with the place of the first wrong field, or 2 for the body's size.
-#[derive(Drop)]
+#[derive(Clone, Copy)]
 pub enum MessageRead {
     Is(Message),
     BadLength,

@@ -6,7 +6,7 @@ use crate::call::{Call, State};
 use crate::events::Event;
 
 // The row of an event, with the values of the event that it uses.
-#[derive(Drop)]
+#[derive(Clone, Copy)]
 pub enum Row {
     // The user asks for a call: the first DM-SETUP PRES.
     Asked { target: u8, lowest: u8, limit: u8 },

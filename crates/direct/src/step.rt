@@ -12,7 +12,7 @@ use crate::laying::{
 use crate::rows::{Row, row_for};
 
 // What comes back.
-#[derive(Drop)]
+#[derive(Clone, Copy)]
 pub enum Answer {
     // 0: taken.
     Taken,
@@ -50,7 +50,7 @@ pub fn answer_number(answer: Answer) -> u8
 }
 
 // The answer, the place that comes with 4, the count of bytes written and the next record.
-#[derive(Drop)]
+#[derive(Clone, Copy)]
 pub struct Stepped {
     pub answer: Answer,
     pub place: u8,

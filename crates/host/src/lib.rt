@@ -1,5 +1,7 @@
 // What a set links: call control on byte slices. A host keeps a call as 22 bytes and hands them in with each event. Every entry but
 // callcontrol_pieces_next returns answer * 2^24 + place * 2^16 + count; 4 alone has a place, the reader's.
+#![tactic(auto)]
+
 ghost use Rattle.std.specs.Prelude.{◌≡◌, List, ℕ, ◌<◌, ◌^◌};
 ghost use Rattle.records.specs.Bodies.{as_wrote};
 ghost use Rattle.records.specs.Events.{events, as_event_read};

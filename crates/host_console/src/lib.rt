@@ -1,2 +1,4 @@
 // What a console links beside host: the two entries over a table of eight call records.
+#![tactic(auto)]
+
 mod table;

@@ -16,7 +16,7 @@ use host::packed::{ANSWER, PLACE, held, is_record, pack};
 use records::events::Event;
 
 // What reading a table gives: whether it is eight sound records, no two alike, and then the key of each place.
-#[derive(Drop)]
+#[derive(Clone, Copy)]
 pub struct TableKeys {
     pub ok: bool,
     pub keys: [u16; 8],

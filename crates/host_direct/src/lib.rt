@@ -1,5 +1,7 @@
 // What a set with direct mode links beside the rest: the outgoing call on byte slices. A host keeps a call as 7 bytes and hands them in with each
 // event. Every entry returns answer * 2^24 + place * 2^16 + count of bytes written; 4 alone has a place, the reader's.
+#![tactic(auto)]
+
 ghost use Rattle.std.specs.Prelude.{◌≡◌, List, ℕ, ◌<◌, ◌^◌};
 ghost use Rattle.records.specs.Bodies.{as_wrote};
 ghost use Rattle.direct.specs.Events.{events, as_event_read};

@@ -1,5 +1,7 @@
 // What the smallest set links in place of host: callcontrol_fresh and callcontrol_step by the second engine, under host's names, over host's
 // bytes and with host's promises word for word. A set that changes from one archive to the other changes no line of C.
+#![tactic(auto)]
+
 ghost use Rattle.std.specs.Prelude.{◌≡◌, List, ℕ};
 ghost use Rattle.host.specs.Entries.{Left, freshened, host_step};
 

@@ -1,4 +1,6 @@
 // What the tests alone link: record_in, a part of one of two lent slices, copied to where a test can look at it.
+#![tactic(auto)]
+
 ghost use Rattle.std.specs.Prelude.{◌≡◌, List, ℕ};
 ghost use Rattle.host_test.specs.Record.{where_is, record_copied};
 

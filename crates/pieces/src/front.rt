@@ -3,7 +3,7 @@ ghost use Rattle.std.specs.Prelude.{◌≡◌, ◌++◌, ◌+◌, ◌≤◌, ◌
 ghost use Rattle.pieces.specs.Stream.{front};
 ghost use Rattle.pieces.specs.Next.{begun};
 
-#[derive(Drop)]
+#[derive(Clone, Copy)]
 pub enum Front {
     // Bytes of a record that has not ended, or none.
     Unended,

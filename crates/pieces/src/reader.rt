@@ -6,7 +6,7 @@ ghost use Rattle.pieces.specs.Next.{fresh_reader, next_of, kept, handed_on, as_o
 use crate::front::{Front, front_of};
 
 // What a reader holds between two pieces; the carried bytes are at the front of the lent carry.
-#[derive(Drop)]
+#[derive(Clone, Copy)]
 pub struct Reader {
     // 0 to 63.
     pub carried: usize,
@@ -26,7 +26,7 @@ impl Reader {
 }
 
 // What comes back.
-#[derive(Drop)]
+#[derive(Clone, Copy)]
 pub enum Answer {
     // 0: taken.
     Taken,
@@ -39,7 +39,7 @@ pub enum Answer {
 }
 
 // Where the record is.
-#[derive(Drop)]
+#[derive(Clone, Copy)]
 pub enum Where {
     // Nothing is handed on.
     Nowhere,
@@ -75,7 +75,7 @@ pub fn where_number(lies: Where) -> u32
 }
 
 // The answer, the record, and what is left to do with the piece: the bytes behind those used are handed in next.
-#[derive(Drop)]
+#[derive(Clone, Copy)]
 pub struct Found {
     pub answer: Answer,
     pub lies: Where,

@@ -97,9 +97,9 @@ module _ (n : ℕ) where
   Others T (m ∷ ms) = Others (T × (n ≡ m → ⊥)) ms
 
   apart_from : {T : Type 0} (ms : List ℕ) → Others T ms → ((m : ℕ) → listed m ms ≡ true → n ≡ m → ⊥) × T
-  apart_from [] rest = (λ m h e. let z : ◌≡◌ {A = Bool} false true = h in let y : ◌≡◌ {A = ℕ} 0 1 = cc in omega arith, rest)
-  apart_from (x ∷ ms) rest =
-      let r = apart_from ms rest in
+  apart_from {T = T} [] rest = (λ m h e. let z : ◌≡◌ {A = Bool} false true = h in let y : ◌≡◌ {A = ℕ} 0 1 = cc in omega arith, rest)
+  apart_from {T = T} (x ∷ ms) rest =
+      let r = apart_from {T = T × (n ≡ x → ⊥)} ms rest in
       (λ m h e. by_test (eqb m x) (λ y. r.1.1 (e ∙ eqb-true m x y)) (λ no. r.0 m (rw no at h) e), r.1.0)
 
 module _ (t : Table) (n : ℕ) (ms : List ℕ) where

@@ -5,14 +5,14 @@ ghost use Rattle.records.specs.Bodies.{kind_in, as_head};
 use crate::fields::word_at;
 
 // The kind that a record's head gives, or none where its length is wrong.
-#[derive(Drop)]
+#[derive(Clone, Copy)]
 pub enum Head {
     Kind(u16),
     Bad,
 }
 
 // What a writer answers: the count of bytes stored, a field out of range (4), or a buffer too short (7).
-#[derive(Drop)]
+#[derive(Clone, Copy)]
 pub enum Written {
     Count(usize),
     BadField,

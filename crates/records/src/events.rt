@@ -13,7 +13,7 @@ use crate::lines::{
     lay_word_four_bytes, lay_word_long_byte, lay_word_three_bytes, lay_word_two_bytes,
 };
 
-#[derive(Drop)]
+#[derive(Clone, Copy)]
 pub enum Event {
     // 0101 SETUP request. The user asks for a call to an address.
     SetupRequest {
@@ -122,7 +122,7 @@ pub enum Event {
 }
 
 // What reading finds: the value, or the refusals 2, 3, 9 (a retired kind) and 4; 4 with the place of the first wrong field, or 2 for the body's size.
-#[derive(Drop)]
+#[derive(Clone, Copy)]
 pub enum EventRead {
     Is(Event),
     BadLength,

@@ -8,19 +8,19 @@ use crate::letters::{Byte, Long, Word, byte_fits, long_fits, word_fits};
 
 // What stands at a letter, at each width: its value, or a number out of its range.
 
-#[derive(Drop)]
+#[derive(Clone, Copy)]
 pub enum ByteField {
     Is(u8),
     Bad,
 }
 
-#[derive(Drop)]
+#[derive(Clone, Copy)]
 pub enum WordField {
     Is(u16),
     Bad,
 }
 
-#[derive(Drop)]
+#[derive(Clone, Copy)]
 pub enum LongField {
     Is(u32),
     Bad,

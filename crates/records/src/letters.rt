@@ -3,7 +3,7 @@ ghost use Rattle.std.specs.Prelude.{◌≡◌};
 ghost use Rattle.records.specs.Letters.{span_of, within, is_timer, is_direct_timer, fits, slots_fit, Letter};
 
 // Letters of one byte.
-#[derive(Drop)]
+#[derive(Clone, Copy)]
 pub enum Byte {
     // Grant: 0 granted, 1 not granted, 2 queued, 3 granted to another.
     G,
@@ -36,7 +36,7 @@ pub enum Byte {
 }
 
 // Letters of two bytes.
-#[derive(Drop)]
+#[derive(Clone, Copy)]
 pub enum Word {
     // Identifier of a call, 1 to 16383.
     I,
@@ -51,7 +51,7 @@ pub enum Word {
 }
 
 // Letters of four bytes.
-#[derive(Drop)]
+#[derive(Clone, Copy)]
 pub enum Long {
     // Address, 0 to 16777215; 0 is unknown.
     A,
@@ -60,7 +60,7 @@ pub enum Long {
 }
 
 // The least and the most that a letter of one byte may stand for.
-#[derive(Drop)]
+#[derive(Clone, Copy)]
 pub struct Span {
     pub least: u8,
     pub most: u8,

@@ -1,5 +1,7 @@
 // One event or message as bytes: length, kind and body, little-endian. What is written reads back as the same
 // value, and what is read is written back as the same bytes (proofs/RoundTrip).
+#![tactic(auto)]
+
 pub mod bodies;
 pub mod events;
 mod fields;

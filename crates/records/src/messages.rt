@@ -15,7 +15,7 @@ use crate::message_lines::{
     lay_u_tx_demand,
 };
 
-#[derive(Drop)]
+#[derive(Clone, Copy)]
 pub enum Message {
     // 0501 U-SETUP. Asks the network for a call.
     USetup {
@@ -118,7 +118,7 @@ pub enum Message {
 }
 
 // What reading finds: the value, or the paper's refusals 2, 3 and 4; 4 with the place of the first wrong field, or 2 for the body's size.
-#[derive(Drop)]
+#[derive(Clone, Copy)]
 pub enum MessageRead {
     Is(Message),
     BadLength,

@@ -1,6 +1,6 @@
 // An event as numbers: which one it is, and the values that it brings. A value that it does not bring is the one that the call holds, so
 // that a row may store it all the same.
-#[derive(Drop)]
+#[derive(Clone, Copy)]
 pub struct Flat {
     pub kind: u64,
     pub address: u32,

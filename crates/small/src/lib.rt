@@ -1,5 +1,7 @@
 // The step once more, for a set with little room: reading, rows and messages each from one constant table, with a short routine that carries
 // a row out. Its promise is the first engine's, word for word.
+#![tactic(auto)]
+
 mod flat;
 mod laying;
 mod reading;

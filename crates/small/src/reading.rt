@@ -234,7 +234,7 @@ const SOME_TIMER: u32 = 301;
 
 const NO_TIMER: usize = 7;
 
-#[derive(Drop)]
+#[derive(Clone, Copy)]
 pub enum FlatRead {
     Is(Flat),
     Refused(Answer, u8),

@@ -26,14 +26,14 @@ pub const TIMER_DUE: u8 = 34;
 // Expiries are made by due alone.
 pub const EXPIRY_HANDED_IN: u8 = 35;
 
-#[derive(Drop)]
+#[derive(Clone, Copy)]
 pub struct Timed {
     pub call: Call,
     pub bank: Bank,
 }
 
 // The answer, the place that comes with it, the count of bytes written and the next set.
-#[derive(Drop)]
+#[derive(Clone, Copy)]
 pub struct Stepped {
     pub answer: u8,
     pub place: u8,
@@ -43,7 +43,7 @@ pub struct Stepped {
 
 // A set at a reading: the answer, 0 where the reading can be accepted; how many timers are then due, and the first of them; and the bank that
 // has accepted it, which a refusal does not let out.
-#[derive(Drop)]
+#[derive(Clone, Copy)]
 pub struct Ready {
     pub answer: u8,
     pub count: usize,

@@ -7,7 +7,7 @@ use crate::wrap::{forward, is_back};
 use std::num::wrapping_add_u32;
 
 // What comes back.
-#[derive(Drop)]
+#[derive(Clone, Copy)]
 pub enum Answer {
     // 0: taken.
     Taken,
@@ -34,7 +34,7 @@ pub fn answer_number(answer: Answer) -> u32
     }
 }
 
-#[derive(Drop)]
+#[derive(Clone, Copy)]
 pub struct Bank {
     // The last reading that was accepted.
     pub last: u32,
@@ -45,14 +45,14 @@ pub struct Bank {
 }
 
 // The answer and the next bank.
-#[derive(Drop)]
+#[derive(Clone, Copy)]
 pub struct Ordered {
     pub answer: Answer,
     pub bank: Bank,
 }
 
 // The answer, the number of timers handed out and the next bank.
-#[derive(Drop)]
+#[derive(Clone, Copy)]
 pub struct Advanced {
     pub answer: Answer,
     pub count: usize,

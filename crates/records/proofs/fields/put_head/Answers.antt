@@ -1,0 +1,13 @@
+-- The length and then the kind.
+use Rattle.records.specs.Bytes.{bytes}
+use Rattle.records.proofs.Laws.{stored-then}
+use borrow.Author.Rules.{rules}
+use Rattle.records.proofs.fields.put_head.Goals as goal
+
+pub put_word-requires : goal.put_word-requires
+unfolding bytes
+put_word-requires c = search rules
+
+pub returns : goal.returns
+unfolding bytes
+returns c = stored-then c.put_word-next.ensures c.put_word.ensures

@@ -1,0 +1,32 @@
+-- The head, and then the fields one after the other.
+use native.Mathlib.Omega.{arith}
+use Rattle.records.specs.Bytes.{bytes}
+use Rattle.records.specs.Bodies.{line_bytes}
+use Rattle.records.proofs.Laws.{stored-then}
+use Rattle.records.proofs.Writing.{no_room, all_laid}
+use borrow.Author.Rules.{rules}
+use Rattle.records.proofs.lines.lay_word_two_bytes.Goals as goal
+
+pub returns-then-buffer-at : goal.returns-then-buffer-at
+unfolding bytes line_bytes
+returns-then-buffer-at c = no_room _ _ _ (omega arith)
+
+pub returns-then-buffer-at-lt8 : goal.returns-then-buffer-at-lt8
+unfolding bytes line_bytes
+returns-then-buffer-at-lt8 c = no_room _ _ _ (omega arith)
+
+pub put_word-next-requires : goal.put_word-next-requires
+unfolding bytes line_bytes
+put_word-next-requires c = search rules
+
+pub put_byte-next-requires : goal.put_byte-next-requires
+unfolding bytes line_bytes
+put_byte-next-requires c = search rules
+
+pub put_byte-requires : goal.put_byte-requires
+unfolding bytes line_bytes
+put_byte-requires c = search rules
+
+pub returns : goal.returns
+unfolding bytes line_bytes
+returns c = all_laid _ _ _ (omega arith) (stored-then (stored-then (stored-then c.put_head-next.ensures c.put_word-next.ensures) c.put_byte-next.ensures) c.put_byte.ensures)
