@@ -1,0 +1,27 @@
+-- Each turn copies one byte more (`paste`); the measure is what is left to copy.
+use Prim.Native.Nat.{ℕ, ◌+◌, ◌-◌, ◌≤◌, ◌<◌}
+use mathlib.Core.Path.{◌≡◌, refl, ◌∙◌, ap}
+use mathlib.Core.List.{List}
+use native.Mathlib.Numerals.{add-one}
+use native.Mathlib.Nat.{le_antisymm}
+use native.Mathlib.Omega.{arith}
+use lib.ListN.{length, get_or, set, length-set}
+use lib.Seq.{paste, paste-zero, paste-suc}
+use Rattle.pieces.proofs.reader.copy.Goals as goal
+
+-- a turn: one byte more
+
+turn : (d : List ℕ) (at : ℕ) (s : List ℕ) (i : ℕ) {carry : List ℕ} → carry ≡ paste d at s i → at + i < length d → i < length s
+    → set carry (at + i) (get_or s i 0) ≡ paste d at s (i + 1)
+turn d at s i {carry} e hd hs = rw (add-one, e) (paste-suc d at s i 0 hd hs)
+
+pub loop-i-init : goal.loop-i-init
+loop-i-init c = (omega arith, paste-zero c.args.carry.now c.args.at c.args.piece.now, refl)
+
+pub loop-i-preserved : goal.loop-i-preserved
+loop-i-preserved c =
+    let room : c.args.at + c.loop-i.i < length c.args.carry.now = omega arith in
+    (omega arith, turn _ _ _ _ c.loop-i.invariant.1 room (omega arith), simp length-set c.loop-i.invariant.2)
+
+pub returns : goal.returns
+returns c = c.loop-i.invariant.1 ∙ ap (λ (k : ℕ). paste c.args.carry.now c.args.at c.args.piece.now k) (le_antisymm c.loop-i.invariant.0 c.loop-i-test.false)
