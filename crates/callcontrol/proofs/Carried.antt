@@ -40,23 +40,23 @@ by_row c e b d x agrees row taken h =
 
 -- a row, and the draft that it stands for
 
-settled-row : (c : Call) (r : Row) (d : Draft) → draft_of c r ≡ d → (r.orders ≡ 0 → ⊥) → settled c r ≡ d
+settled_row : (c : Call) (r : Row) (d : Draft) → draft_of c r ≡ d → (r.orders ≡ 0 → ⊥) → settled c r ≡ d
 unfolding draft_of
-settled-row c r d h some = rw (ne_eqb _ _ some) at h
+settled_row c r d h some = rw (ne_eqb _ _ some) at h
 
-settled-taken : (c : Call) (r : Row) → (settled c r).taken ≡ true
+settled_taken : (c : Call) (r : Row) → (settled c r).taken ≡ true
 unfolding settled
-settled-taken c r = refl
+settled_taken c r = refl
 
 pub by_orders : (c : Call) (e : Event) (b : List ℕ) (r : Row) (d : Draft) (x : Outcome) → other_call c e ≡ false → draft_of c r ≡ row_for c e
     → (r.orders ≡ 0 → ⊥) → over_transmission c e ≡ false → d ≡ settled c r → x ≡ carried c d b → x ≡ decided c e b
 by_orders c e b r d x agrees row some silent settle h =
-    by_row c e b d x agrees (settle ∙ settled-row c r (row_for c e) row some) (ap (λ (w : Draft). w.taken) settle ∙ settled-taken c r) (rw silent h)
+    by_row c e b d x agrees (settle ∙ settled_row c r (row_for c e) row some) (ap (λ (w : Draft). w.taken) settle ∙ settled_taken c r) (rw silent h)
 
 pub by_transmission : (c : Call) (e : Event) (b : List ℕ) (r : Row) → other_call c e ≡ false → draft_of c r ≡ row_for c e → (r.orders ≡ 0 → ⊥)
     → over_transmission c e ≡ true → refusal 8 c b ≡ decided c e b
 by_transmission c e b r agrees row some over =
-    by_row c e b (settled c r) (refusal 8 c b) agrees (settled-row c r (row_for c e) row some) (settled-taken c r) (rw over refl)
+    by_row c e b (settled c r) (refusal 8 c b) agrees (settled_row c r (row_for c e) row some) (settled_taken c r) (rw over refl)
 
 no_row_lem : (c : Call) (r : Row) (d : Draft) → draft_of c r ≡ d → r.orders ≡ 0 → d.taken ≡ false
 unfolding draft_of no_row
@@ -66,7 +66,7 @@ pub by_other : (c : Call) (e : Event) (b : List ℕ) → other_call c e ≡ true
 unfolding decided
 by_other c e b other = rw other
 
-pub by-none : (c : Call) (e : Event) (b : List ℕ) (r : Row) → other_call c e ≡ false → draft_of c r ≡ row_for c e → r.orders ≡ 0
+pub by_none : (c : Call) (e : Event) (b : List ℕ) (r : Row) → other_call c e ≡ false → draft_of c r ≡ row_for c e → r.orders ≡ 0
     → refusal 6 c b ≡ decided c e b
 unfolding decided
-by-none c e b r agrees row none = rw (agrees, no_row_lem c r (row_for c e) row none)
+by_none c e b r agrees row none = rw (agrees, no_row_lem c r (row_for c e) row none)

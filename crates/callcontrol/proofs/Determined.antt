@@ -17,18 +17,18 @@ answer_back n =
     (cond (eqb n 3) Answer.UnknownKind
     (cond (eqb n 4) Answer.BadBody (cond (eqb n 5) Answer.OtherCall (cond (eqb n 6) Answer.NoRow (cond (eqb n 7) Answer.NoRoom (cond (eqb n 8) Answer.OwnTransmission Answer.Retired))))))))
 
-answer-same : (a : Answer) → answer_back (answer_number a) ≡ a
+answer_same : (a : Answer) → answer_back (answer_number a) ≡ a
 unfolding answer_back
-answer-same Answer.Taken = refl
-answer-same Answer.NotSound = refl
-answer-same Answer.BadLength = refl
-answer-same Answer.UnknownKind = refl
-answer-same Answer.Retired = refl
-answer-same Answer.BadBody = refl
-answer-same Answer.OtherCall = refl
-answer-same Answer.NoRow = refl
-answer-same Answer.NoRoom = refl
-answer-same Answer.OwnTransmission = refl
+answer_same Answer.Taken = refl
+answer_same Answer.NotSound = refl
+answer_same Answer.BadLength = refl
+answer_same Answer.UnknownKind = refl
+answer_same Answer.Retired = refl
+answer_same Answer.BadBody = refl
+answer_same Answer.OtherCall = refl
+answer_same Answer.NoRow = refl
+answer_same Answer.NoRoom = refl
+answer_same Answer.OwnTransmission = refl
 
 -- what an outcome says of the code's result
 back : Outcome → Stepped
@@ -36,7 +36,7 @@ back o = record { answer = answer_back o.answer; place = o.place; count = o.coun
 
 same : (r : Stepped) (b : List ℕ) → back (as_outcome r b) ≡ r
 unfolding back
-same r b = λ i. record { answer = answer-same r.answer i; place = r.place; count = r.count; call = r.call }
+same r b = λ i. record { answer = answer_same r.answer i; place = r.place; count = r.count; call = r.call }
 
 pub step : (o : Outcome) (r₁ r₂ : Stepped) (b₁ b₂ : List ℕ) → as_outcome r₁ b₁ ≡ o → as_outcome r₂ b₂ ≡ o → (r₁ ≡ r₂) × (b₁ ≡ b₂)
 step o r₁ r₂ b₁ b₂ e₁ e₂ =

@@ -29,9 +29,9 @@ lay_then {a} {b} {c} {at} {r} {e} {ms} {ns} p q =
     record
     { is = q.is ∙ ap (λ (w : ℕ × List ℕ). lay_all ns w.0 w.1) p.is ∙ sym (lay_append ms ns at a) }
 
-size-bytes : (m : Message) → length (message_bytes m) ≡ message_size m
+size_bytes : (m : Message) → length (message_bytes m) ≡ message_size m
 unfolding message_bytes message_size
-size-bytes m = length-flat_bytes (flat messages m)
+size_bytes m = length-flat_bytes (flat messages m)
 
 -- where all of them fit, they are stored whole
 pub lay_fits : (ms : List Message) (at : ℕ) (b : List ℕ) → at + length (bytes_of ms) ≤ length b
@@ -58,12 +58,12 @@ size-append (m ∷ ms) ns =
 
 pub size_one : (m : Message) → length (bytes_of (m ∷ [])) ≡ message_size m
 unfolding bytes_of
-size_one m = omega (arith, length-append (message_bytes m) [], size-bytes m)
+size_one m = omega (arith, length-append (message_bytes m) [], size_bytes m)
 
-pub size-when : (b : Bool) (m : Message) (n : ℕ) → message_size m ≡ n → length (bytes_of (when b m)) ≡ n * cond b 1 0
+pub size_when : (b : Bool) (m : Message) (n : ℕ) → message_size m ≡ n → length (bytes_of (when b m)) ≡ n * cond b 1 0
 unfolding bytes_of
-size-when true m n e = omega (arith, size_one m)
-size-when false m n e = omega arith
+size_when true m n e = omega (arith, size_one m)
+size_when false m n e = omega arith
 
 whole : (b : Bool) (m : Message) (n : ℕ) → message_size m ≡ n → length (bytes_of (when b m)) ≡ cond b n 0
 unfolding bytes_of
@@ -71,12 +71,12 @@ whole true m n e = size_one m ∙ e
 whole false m n e = refl
 
 -- a timer order for each flag takes the same number of bytes
-pub size-by_number : (order : ℕ → Message) (flags : List Bool) (n : ℕ) → ((k : ℕ) → message_size (order k) ≡ n)
+pub size_by_number : (order : ℕ → Message) (flags : List Bool) (n : ℕ) → ((k : ℕ) → message_size (order k) ≡ n)
     → length (bytes_of (by_number order flags)) ≡ n * count_of flags
 unfolding by_number count_of
-size-by_number order flags n e =
+size_by_number order flags n e =
     let w : (k p : ℕ) → length (bytes_of (when (get_or flags p false) (order k))) ≡ n * cond (get_or flags p false) 1 0 =
-    λ k p. size-when (get_or flags p false) (order k) n (e k) in
+    λ k p. size_when (get_or flags p false) (order k) n (e k) in
     simp (size-append, mul-add)
     (omega (arith, w 301 T301, w 302 T302, w 303 T303, w 306 T306, w 308 T308, w 310 T310, w 311 T311))
 
@@ -109,18 +109,18 @@ size_bound (Message.TxIndication x) = lit≤ tt
 size_bound (Message.ModifyIndication d s) = lit≤ tt
 
 -- the whole of an order: what its parts take
-pub size-messages : (d : Draft)
+pub size_messages : (d : Draft)
     → length (bytes_of (messages_in d))
     ≡ 6 * count_of d.stops + cond d.cancel 4 0 + length (bytes_of (held d.pdu)) + 7 * count_of d.starts
     + cond (not (eqb d.configure 0)) 5 0 + length (bytes_of (held d.user))
 unfolding messages_in message_size flat_size starting
-size-messages d =
+size_messages d =
     let cancel : length (bytes_of (when d.cancel Message.Cancel)) ≡ cond d.cancel 4 0 = whole d.cancel Message.Cancel 4 refl in
     let plane : length (bytes_of (when (not (eqb d.configure 0)) (Message.Configure d.configure))) ≡ cond (not (eqb d.configure 0)) 5 0 =
     whole (not (eqb d.configure 0)) (Message.Configure d.configure) 5 refl in
     simp size-append
     (omega
-    (arith, cancel, plane, size-by_number Message.Stop d.stops 6 (λ k. refl), size-by_number (starting d.call.code) d.starts 7 (λ k. refl)))
+    (arith, cancel, plane, size_by_number Message.Stop d.stops 6 (λ k. refl), size_by_number (starting d.call.code) d.starts 7 (λ k. refl)))
 
 -- at most seven STOPs and seven STARTs, CANCEL, a PDU, CONFIGURE and a primitive
 
@@ -139,10 +139,10 @@ unfolding bytes_of
 held_small Slot.Empty = lit≤ tt
 held_small (Slot.Holds m) = omega (arith, size_one m, size_bound m)
 
-pub messages-small : (d : Draft) → length (bytes_of (messages_in d)) ≤ 122
-messages-small d =
+pub messages_small : (d : Draft) → length (bytes_of (messages_in d)) ≤ 122
+messages_small d =
     omega
-    (arith, size-messages d, seven d.stops, seven d.starts, held_small d.pdu, held_small d.user, at_most d.cancel 4, at_most (not (eqb d.configure 0)) 5)
+    (arith, size_messages d, seven d.stops, seven d.starts, held_small d.pdu, held_small d.user, at_most d.cancel 4, at_most (not (eqb d.configure 0)) 5)
 
 -- where no timer is flagged, there is no order
 quiet : (m n o p q r s : Message) (a b c d e f g : Bool)
@@ -173,22 +173,22 @@ some n h = rw (ne_eqb n 0 h) refl
 abbrev flagged : Bool → Bool → Bool → Bool → Bool → Bool → Bool → ℕ
 flagged a b c d e f g = cond a 1 0 + cond b 1 0 + cond c 1 0 + cond d 1 0 + cond e 1 0 + cond f 1 0 + cond g 1 0
 
-any-seven : (a b c d e f g : Bool) → (a || b || c || d || e || f || g) ≡ not (eqb (flagged a b c d e f g) 0)
-any-seven true b c d e f g = some (flagged true b c d e f g) (λ z. omega arith)
-any-seven false true c d e f g = some (flagged false true c d e f g) (λ z. omega arith)
-any-seven false false true d e f g = some (flagged false false true d e f g) (λ z. omega arith)
-any-seven false false false true e f g = some (flagged false false false true e f g) (λ z. omega arith)
-any-seven false false false false true f g = some (flagged false false false false true f g) (λ z. omega arith)
-any-seven false false false false false true g = some (flagged false false false false false true g) (λ z. omega arith)
-any-seven false false false false false false true = some (flagged false false false false false false true) (λ z. omega arith)
-any-seven false false false false false false false = refl
+any_seven : (a b c d e f g : Bool) → (a || b || c || d || e || f || g) ≡ not (eqb (flagged a b c d e f g) 0)
+any_seven true b c d e f g = some (flagged true b c d e f g) (λ z. omega arith)
+any_seven false true c d e f g = some (flagged false true c d e f g) (λ z. omega arith)
+any_seven false false true d e f g = some (flagged false false true d e f g) (λ z. omega arith)
+any_seven false false false true e f g = some (flagged false false false true e f g) (λ z. omega arith)
+any_seven false false false false true f g = some (flagged false false false false true f g) (λ z. omega arith)
+any_seven false false false false false true g = some (flagged false false false false false true g) (λ z. omega arith)
+any_seven false false false false false false true = some (flagged false false false false false false true) (λ z. omega arith)
+any_seven false false false false false false false = refl
 
-pub any-flags : (flags : List Bool)
+pub any_flags : (flags : List Bool)
     → (get_or flags T301 false || get_or flags T302 false || get_or flags T303 false || get_or flags T306 false || get_or flags T308 false || get_or flags T310 false || get_or flags T311 false)
     ≡ not (eqb (count_of flags) 0)
 unfolding count_of
-any-flags flags =
-    any-seven (get_or flags T301 false) (get_or flags T302 false) (get_or flags T303 false) (get_or flags T306 false) (get_or flags T308 false)
+any_flags flags =
+    any_seven (get_or flags T301 false) (get_or flags T302 false) (get_or flags T303 false) (get_or flags T306 false) (get_or flags T308 false)
     (get_or flags T310 false) (get_or flags T311 false)
 
 pub lay_none : {b : List ℕ} {at : ℕ} {ms : List Message} → ms ≡ [] → Laid b at ms at b

@@ -27,17 +27,17 @@ pub none_is : (c : Call) → draft_of c none_row ≡ no_row c
 unfolding numbers
 none_is c = refl
 
-pub releasing-is : (c : Call) → draft_of c (row_asking c RELEASE 0 1) ≡ releasing c
+pub releasing_is : (c : Call) → draft_of c (row_asking c RELEASE 0 1) ≡ releasing c
 unfolding verbs numbers releasing
-releasing-is c = refl
+releasing_is c = refl
 
-pub released-is : (c : Call) → draft_of c (row_of c ENDED 3) ≡ released c
+pub released_is : (c : Call) → draft_of c (row_of c ENDED 3) ≡ released c
 unfolding verbs numbers released
-released-is c = refl
+released_is c = refl
 
-pub disconnected-is : (c : Call) (i : ℕ) → draft_of c (row_naming c (ENDED + U_RELEASE) i 3) ≡ disconnected i c
+pub disconnected_is : (c : Call) (i : ℕ) → draft_of c (row_naming c (ENDED + U_RELEASE) i 3) ≡ disconnected i c
 unfolding verbs numbers disconnected
-disconnected-is c i = refl
+disconnected_is c i = refl
 
 pub timed_out_301_is : (c : Call) → draft_of c (row_asking c (EXPIRED_301 + RELEASE + RELEASE_INDICATION) 0 2) ≡ draft c ▷ expired T301 ▷ release 2 ▷ tell (Message.ReleaseIndication 2)
 unfolding verbs numbers
@@ -79,9 +79,9 @@ pub proceeding_is : (c : Call) (i : ℕ) → draft_of c (row_naming c (STAY + SE
 unfolding verbs numbers mo_call_setup
 proceeding_is c i = refl
 
-pub alert-is : (c : Call) (i : ℕ) → draft_of c (row_naming c (STAY + SENT + STOP_303 + START_302 + ALERT) i 0) ≡ mo_call_setup c (Event.DAlert i)
+pub alert_is : (c : Call) (i : ℕ) → draft_of c (row_naming c (STAY + SENT + STOP_303 + START_302 + ALERT) i 0) ≡ mo_call_setup c (Event.DAlert i)
 unfolding verbs numbers mo_call_setup
-alert-is c i = refl
+alert_is c i = refl
 
 -- grants
 
@@ -142,14 +142,14 @@ given_or neither d = d
 above : (n k : ℕ) → k < 4 → eqb (suc (suc (suc (suc n)))) k ≡ false
 above n k h = ne_eqb (suc (suc (suc (suc n)))) k (λ e. omega arith)
 
-plane-is : (g d : ℕ) (duplex : Bool) → eqb d 1 ≡ duplex → plane_granted g d ≡ plane_of (granting g duplex)
+plane_is : (g d : ℕ) (duplex : Bool) → eqb d 1 ≡ duplex → plane_granted g d ≡ plane_of (granting g duplex)
 unfolding plane_granted
-plane-is zero d true e = rw e refl
-plane-is zero d false e = rw e refl
-plane-is (suc zero) d duplex e = refl
-plane-is (suc (suc zero)) d duplex e = refl
-plane-is (suc (suc (suc zero))) d duplex e = refl
-plane-is (suc (suc (suc (suc n)))) d duplex e = rw (above n 0 (omega arith), above n 3 (omega arith)) refl
+plane_is zero d true e = rw e refl
+plane_is zero d false e = rw e refl
+plane_is (suc zero) d duplex e = refl
+plane_is (suc (suc zero)) d duplex e = refl
+plane_is (suc (suc (suc zero))) d duplex e = refl
+plane_is (suc (suc (suc (suc n)))) d duplex e = rw (above n 0 (omega arith), above n 3 (omega arith)) refl
 
 plane_or_off_is : (g d : ℕ) (duplex : Bool) → eqb d 1 ≡ duplex → plane_or_off g d ≡ plane_of_or (granting g duplex)
 unfolding plane_granted plane_or_off
@@ -170,14 +170,14 @@ asked_is (suc (suc zero)) q duplex = refl
 asked_is (suc (suc (suc zero))) q duplex = refl
 asked_is (suc (suc (suc (suc n)))) q duplex = rw (above n 0 (omega arith), above n 1 (omega arith)) refl
 
-grant-is : (g : ℕ) (d : Draft) (duplex : Bool) → eqb d.call.mode 1 ≡ duplex → given (granting g duplex) d ≡ grant g d
+grant_is : (g : ℕ) (d : Draft) (duplex : Bool) → eqb d.call.mode 1 ≡ duplex → given (granting g duplex) d ≡ grant g d
 unfolding grant
-grant-is zero d true e = rw e refl
-grant-is zero d false e = rw e refl
-grant-is (suc zero) d duplex e = refl
-grant-is (suc (suc zero)) d duplex e = refl
-grant-is (suc (suc (suc zero))) d duplex e = refl
-grant-is (suc (suc (suc (suc n)))) d duplex e = rw (above n 0 (omega arith), above n 1 (omega arith), above n 3 (omega arith)) refl
+grant_is zero d true e = rw e refl
+grant_is zero d false e = rw e refl
+grant_is (suc zero) d duplex e = refl
+grant_is (suc (suc zero)) d duplex e = refl
+grant_is (suc (suc (suc zero))) d duplex e = refl
+grant_is (suc (suc (suc (suc n)))) d duplex e = rw (above n 0 (omega arith), above n 1 (omega arith), above n 3 (omega arith)) refl
 
 grant_or_off_is : (g : ℕ) (d : Draft) (duplex : Bool) → eqb d.call.mode 1 ≡ duplex → given_or (granting g duplex) d ≡ grant_or_off g d
 unfolding grant grant_or_off
@@ -208,28 +208,28 @@ acknowledging_mode : (c : Call) (o : ℕ) → eqb (acknowledging c o).call.mode 
 unfolding verbs
 acknowledging_mode c o = refl
 
-restored-mode : (c : Call) → eqb (restored c).call.mode 1 ≡ eqb c.mode 1
+restored_mode : (c : Call) → eqb (restored c).call.mode 1 ≡ eqb c.mode 1
 unfolding verbs
-restored-mode c = refl
+restored_mode c = refl
 
-draft-mode : (c : Call) → eqb (draft c).call.mode 1 ≡ eqb c.mode 1
+draft_mode : (c : Call) → eqb (draft c).call.mode 1 ≡ eqb c.mode 1
 unfolding verbs
-draft-mode c = refl
+draft_mode c = refl
 
-connected-by : (c : Call) (i g d o s : ℕ) (w : Granted) → draft_of c (record { orders = CALL_ACTIVE + SENT + STOP_302 + STOP_303 + START_310 + SETUP_CONFIRM + plane_of_or w; id = i; address = c.address; mode = d; asked = asked_of w c.asked; code = o; slots = slots_after s c.slots; value = g }) ≡ given_or w (connecting c i d o s) ▷ tell (Message.SetupConfirm i g)
+connected_by : (c : Call) (i g d o s : ℕ) (w : Granted) → draft_of c (record { orders = CALL_ACTIVE + SENT + STOP_302 + STOP_303 + START_310 + SETUP_CONFIRM + plane_of_or w; id = i; address = c.address; mode = d; asked = asked_of w c.asked; code = o; slots = slots_after s c.slots; value = g }) ≡ given_or w (connecting c i d o s) ▷ tell (Message.SetupConfirm i g)
 unfolding verbs numbers
-connected-by c i g d o s both = refl
-connected-by c i g d o s one = refl
-connected-by c i g d o s refused = refl
-connected-by c i g d o s queued = refl
-connected-by c i g d o s another = refl
-connected-by c i g d o s neither = refl
+connected_by c i g d o s both = refl
+connected_by c i g d o s one = refl
+connected_by c i g d o s refused = refl
+connected_by c i g d o s queued = refl
+connected_by c i g d o s another = refl
+connected_by c i g d o s neither = refl
 
-pub connected-is : (c : Call) (i g d o s : ℕ) → draft_of c (record { orders = CALL_ACTIVE + SENT + STOP_302 + STOP_303 + START_310 + SETUP_CONFIRM + plane_or_off g d; id = i; address = c.address; mode = d; asked = asked_after g c.asked; code = o; slots = slots_after s c.slots; value = g }) ≡ mo_call_setup c (Event.DConnect i g d o s)
+pub connected_is : (c : Call) (i g d o s : ℕ) → draft_of c (record { orders = CALL_ACTIVE + SENT + STOP_302 + STOP_303 + START_310 + SETUP_CONFIRM + plane_or_off g d; id = i; address = c.address; mode = d; asked = asked_after g c.asked; code = o; slots = slots_after s c.slots; value = g }) ≡ mo_call_setup c (Event.DConnect i g d o s)
 unfolding mo_call_setup
-connected-is c i g d o s =
+connected_is c i g d o s =
     rw (plane_or_off_is g d (eqb d 1) refl, asked_is g c.asked (eqb d 1))
-    (connected-by c i g d o s (granting g (eqb d 1))
+    (connected_by c i g d o s (granting g (eqb d 1))
     ∙ ap (tell (Message.SetupConfirm i g)) (grant_or_off_is g (connecting c i d o s) (eqb d 1) (connecting_mode c i d o s)))
 
 -- REPORTs, in MO-CALL-SETUP and CALL-DISCONNECT
@@ -301,11 +301,11 @@ restarted_for anew o d = d ▷ store_code o ▷ start T310
 restarted_for held o d = d ▷ store_code d.call.code ▷ start T310
 restarted_for left o d = d
 
-restarting-is : (r o : ℕ) (b absent : Bool) → eqb r 1 ≡ b → restarting r ≡ start_of (restarted_by b absent)
+restarting_is : (r o : ℕ) (b absent : Bool) → eqb r 1 ≡ b → restarting r ≡ start_of (restarted_by b absent)
 unfolding restarting
-restarting-is r o true true e = rw e refl
-restarting-is r o true false e = rw e refl
-restarting-is r o false absent e = rw e refl
+restarting_is r o true true e = rw e refl
+restarting_is r o true false e = rw e refl
+restarting_is r o false absent e = rw e refl
 
 code_is : (r o h : ℕ) (b absent : Bool) → eqb r 1 ≡ b → eqb o 16 ≡ absent → code_after r o h ≡ code_of (restarted_by b absent) o h
 unfolding code_after
@@ -313,17 +313,17 @@ code_is r o h true true e f = rw (e, f) refl
 code_is r o h true false e f = rw (e, f) refl
 code_is r o h false absent e f = rw e refl
 
-restart-is : (r o : ℕ) (d : Draft) (b absent : Bool) → eqb r 1 ≡ b → eqb o 16 ≡ absent → restarted_for (restarted_by b absent) o d ≡ restart r o d
+restart_is : (r o : ℕ) (d : Draft) (b absent : Bool) → eqb r 1 ≡ b → eqb o 16 ≡ absent → restarted_for (restarted_by b absent) o d ≡ restart r o d
 unfolding restart
-restart-is r o d true true e f = rw (e, f) refl
-restart-is r o d true false e f = rw (e, f) refl
-restart-is r o d false absent e f = rw e refl
+restart_is r o d true true e f = rw (e, f) refl
+restart_is r o d true false e f = rw (e, f) refl
+restart_is r o d false absent e f = rw e refl
 
-informed-same : (c : Call) (o s : ℕ) (w : Restarted) → draft_of c (record { orders = STAY + SAME_PLANE + MODIFY_INDICATION + start_of w; id = c.id; address = c.address; mode = c.mode; asked = c.asked; code = code_of w o c.code; slots = slots_after s c.slots; value = 0 }) ≡ restarted_for w o (draft c) ▷ store_slots s ▷ same_plane ▷ tell_modified c.mode
+informed_same : (c : Call) (o s : ℕ) (w : Restarted) → draft_of c (record { orders = STAY + SAME_PLANE + MODIFY_INDICATION + start_of w; id = c.id; address = c.address; mode = c.mode; asked = c.asked; code = code_of w o c.code; slots = slots_after s c.slots; value = 0 }) ≡ restarted_for w o (draft c) ▷ store_slots s ▷ same_plane ▷ tell_modified c.mode
 unfolding verbs numbers
-informed-same c o s anew = refl
-informed-same c o s held = refl
-informed-same c o s left = refl
+informed_same c o s anew = refl
+informed_same c o s held = refl
+informed_same c o s left = refl
 
 informed_other : (c : Call) (o d s : ℕ) (w : Restarted) → draft_of c (record { orders = STAY + PLANE_OFF + MODIFY_INDICATION + start_of w; id = c.id; address = c.address; mode = d; asked = c.asked; code = code_of w o c.code; slots = slots_after s c.slots; value = 0 }) ≡ restarted_for w o (draft c) ▷ store_mode d ▷ store_slots s ▷ off ▷ tell_modified d
 unfolding verbs numbers
@@ -331,34 +331,34 @@ informed_other c o d s anew = refl
 informed_other c o d s held = refl
 informed_other c o d s left = refl
 
-pub informed-same-is : (c : Call) (r o d s : ℕ) → d ≡ c.mode → draft_of c (record { orders = STAY + SAME_PLANE + MODIFY_INDICATION + restarting r; id = c.id; address = c.address; mode = d; asked = c.asked; code = code_after r o c.code; slots = slots_after s c.slots; value = 0 }) ≡ informed r o d s c
+pub informed_same_is : (c : Call) (r o d s : ℕ) → d ≡ c.mode → draft_of c (record { orders = STAY + SAME_PLANE + MODIFY_INDICATION + restarting r; id = c.id; address = c.address; mode = d; asked = c.asked; code = code_after r o c.code; slots = slots_after s c.slots; value = 0 }) ≡ informed r o d s c
 unfolding informed
-informed-same-is c r o d s e =
-    rw (e, eq-eqb c.mode c.mode refl, restarting-is r o (eqb r 1) (eqb o 16) refl, code_is r o c.code (eqb r 1) (eqb o 16) refl refl)
-    (informed-same c o s (restarted_by (eqb r 1) (eqb o 16))
-    ∙ ap (λ t. t ▷ store_slots s ▷ same_plane ▷ tell_modified c.mode) (restart-is r o (draft c) (eqb r 1) (eqb o 16) refl refl))
+informed_same_is c r o d s e =
+    rw (e, eq-eqb c.mode c.mode refl, restarting_is r o (eqb r 1) (eqb o 16) refl, code_is r o c.code (eqb r 1) (eqb o 16) refl refl)
+    (informed_same c o s (restarted_by (eqb r 1) (eqb o 16))
+    ∙ ap (λ t. t ▷ store_slots s ▷ same_plane ▷ tell_modified c.mode) (restart_is r o (draft c) (eqb r 1) (eqb o 16) refl refl))
 
 pub informed_other_is : (c : Call) (r o d s : ℕ) → eqb d c.mode ≡ false → draft_of c (record { orders = STAY + PLANE_OFF + MODIFY_INDICATION + restarting r; id = c.id; address = c.address; mode = d; asked = c.asked; code = code_after r o c.code; slots = slots_after s c.slots; value = 0 }) ≡ informed r o d s c
 unfolding informed
 informed_other_is c r o d s e =
-    rw (e, restarting-is r o (eqb r 1) (eqb o 16) refl, code_is r o c.code (eqb r 1) (eqb o 16) refl refl)
+    rw (e, restarting_is r o (eqb r 1) (eqb o 16) refl, code_is r o c.code (eqb r 1) (eqb o 16) refl refl)
     (informed_other c o d s (restarted_by (eqb r 1) (eqb o 16))
-    ∙ ap (λ t. t ▷ store_mode d ▷ store_slots s ▷ off ▷ tell_modified d) (restart-is r o (draft c) (eqb r 1) (eqb o 16) refl refl))
+    ∙ ap (λ t. t ▷ store_mode d ▷ store_slots s ▷ off ▷ tell_modified d) (restart_is r o (draft c) (eqb r 1) (eqb o 16) refl refl))
 
-granted-by : (c : Call) (g : ℕ) (w : Granted) → draft_of c (record { orders = STAY + TX_INDICATION + plane_of w; id = c.id; address = c.address; mode = c.mode; asked = asked_of w c.asked; code = c.code; slots = c.slots; value = g }) ≡ given w (draft c) ▷ tell (Message.TxIndication g)
+granted_by : (c : Call) (g : ℕ) (w : Granted) → draft_of c (record { orders = STAY + TX_INDICATION + plane_of w; id = c.id; address = c.address; mode = c.mode; asked = asked_of w c.asked; code = c.code; slots = c.slots; value = g }) ≡ given w (draft c) ▷ tell (Message.TxIndication g)
 unfolding verbs numbers
-granted-by c g both = refl
-granted-by c g one = refl
-granted-by c g refused = refl
-granted-by c g queued = refl
-granted-by c g another = refl
-granted-by c g neither = refl
+granted_by c g both = refl
+granted_by c g one = refl
+granted_by c g refused = refl
+granted_by c g queued = refl
+granted_by c g another = refl
+granted_by c g neither = refl
 
-pub granted-is : (c : Call) (g : ℕ) → draft_of c (record { orders = STAY + TX_INDICATION + plane_granted g c.mode; id = c.id; address = c.address; mode = c.mode; asked = asked_after g c.asked; code = c.code; slots = c.slots; value = g }) ≡ draft c ▷ grant g ▷ tell (Message.TxIndication g)
-granted-is c g =
-    rw (plane-is g c.mode (eqb c.mode 1) refl, asked_is g c.asked (eqb c.mode 1))
-    (granted-by c g (granting g (eqb c.mode 1))
-    ∙ ap (tell (Message.TxIndication g)) (grant-is g (draft c) (eqb c.mode 1) (draft-mode c)))
+pub granted_is : (c : Call) (g : ℕ) → draft_of c (record { orders = STAY + TX_INDICATION + plane_granted g c.mode; id = c.id; address = c.address; mode = c.mode; asked = asked_after g c.asked; code = c.code; slots = c.slots; value = g }) ≡ draft c ▷ grant g ▷ tell (Message.TxIndication g)
+granted_is c g =
+    rw (plane_is g c.mode (eqb c.mode 1) refl, asked_is g c.asked (eqb c.mode 1))
+    (granted_by c g (granting g (eqb c.mode 1))
+    ∙ ap (tell (Message.TxIndication g)) (grant_is g (draft c) (eqb c.mode 1) (draft_mode c)))
 
 pub tx_ceased_is : (c : Call) → draft_of c (row_of c (STAY + PLANE_OFF + TX_INDICATION) 4) ≡ draft c ▷ off ▷ tell (Message.TxIndication 4)
 unfolding verbs numbers
@@ -376,9 +376,9 @@ pub paused_is : (c : Call) → draft_of c (row_of c (WAIT + PLANE_OFF + TX_INDIC
 unfolding verbs numbers
 paused_is c = refl
 
-pub cut-is : (c : Call) → draft_of c (row_asking c (STAY + BROKEN + PLANE_OFF) (cond (transmits c.plane) 1 c.asked) 0) ≡ cut c
+pub cut_is : (c : Call) → draft_of c (row_asking c (STAY + BROKEN + PLANE_OFF) (cond (transmits c.plane) 1 c.asked) 0) ≡ cut c
 unfolding verbs numbers cut
-cut-is c = refl
+cut_is c = refl
 
 pub spoken_out_is : (c : Call) → draft_of c (row_of c (EXPIRED_311 + STAY + U_TX_CEASED + PLANE_OFF) 0) ≡ draft c ▷ expired T311 ▷ say (Message.UTxCeased c.id) ▷ off
 unfolding verbs numbers
@@ -437,16 +437,16 @@ restored_by c g o neither anew = refl
 restored_by c g o neither held = refl
 restored_by c g o neither left = refl
 
-pub restored-is : (c : Call) (g r o : ℕ) → draft_of c (record { orders = STAY + STOP_306 + UP + TX_INDICATION + plane_granted g c.mode + restarting r; id = c.id; address = c.address; mode = c.mode; asked = asked_after g c.asked; code = code_after r o c.code; slots = c.slots; value = g }) ≡ restored c ▷ grant g ▷ restart r o ▷ tell (Message.TxIndication g)
-restored-is c g r o =
-    rw (plane-is g c.mode (eqb c.mode 1) refl, asked_is g c.asked (eqb c.mode 1), restarting-is r o (eqb r 1) (eqb o 16) refl, code_is r o c.code (eqb r 1) (eqb o 16) refl refl)
+pub restored_is : (c : Call) (g r o : ℕ) → draft_of c (record { orders = STAY + STOP_306 + UP + TX_INDICATION + plane_granted g c.mode + restarting r; id = c.id; address = c.address; mode = c.mode; asked = asked_after g c.asked; code = code_after r o c.code; slots = c.slots; value = g }) ≡ restored c ▷ grant g ▷ restart r o ▷ tell (Message.TxIndication g)
+restored_is c g r o =
+    rw (plane_is g c.mode (eqb c.mode 1) refl, asked_is g c.asked (eqb c.mode 1), restarting_is r o (eqb r 1) (eqb o 16) refl, code_is r o c.code (eqb r 1) (eqb o 16) refl refl)
     (restored_by c g o (granting g (eqb c.mode 1)) (restarted_by (eqb r 1) (eqb o 16))
-    ∙ ap (λ t. restarted_for (restarted_by (eqb r 1) (eqb o 16)) o t ▷ tell (Message.TxIndication g)) (grant-is g (restored c) (eqb c.mode 1) (restored-mode c))
-    ∙ ap (tell (Message.TxIndication g)) (restart-is r o (grant g (restored c)) (eqb r 1) (eqb o 16) refl refl))
+    ∙ ap (λ t. restarted_for (restarted_by (eqb r 1) (eqb o 16)) o t ▷ tell (Message.TxIndication g)) (grant_is g (restored c) (eqb c.mode 1) (restored_mode c))
+    ∙ ap (tell (Message.TxIndication g)) (restart_is r o (grant g (restored c)) (eqb r 1) (eqb o 16) refl refl))
 
-pub broken-again-is : (c : Call) → draft_of c (row_of c (STAY + STOP_306 + BROKEN + PLANE_OFF) 0) ≡ active_restoring c Event.Break
+pub broken_again_is : (c : Call) → draft_of c (row_of c (STAY + STOP_306 + BROKEN + PLANE_OFF) 0) ≡ active_restoring c Event.Break
 unfolding verbs numbers active_restoring
-broken-again-is c = refl
+broken_again_is c = refl
 
 -- WAIT
 
@@ -468,21 +468,21 @@ pause_cut_is c = refl
 
 -- CALL-DISCONNECT
 
-pub disconnected-unsent-is : (c : Call) (i : ℕ) → draft_of c (row_naming c (CANCEL + ENDED + U_RELEASE) i 3) ≡ disconnected i c ▷ cancel
+pub disconnected_unsent_is : (c : Call) (i : ℕ) → draft_of c (row_naming c (CANCEL + ENDED + U_RELEASE) i 3) ≡ disconnected i c ▷ cancel
 unfolding verbs numbers disconnected
-disconnected-unsent-is c i = refl
+disconnected_unsent_is c i = refl
 
-pub released-unsent-is : (c : Call) → draft_of c (row_of c (CANCEL + ENDED) 3) ≡ released c ▷ cancel
+pub released_unsent_is : (c : Call) → draft_of c (row_of c (CANCEL + ENDED) 3) ≡ released c ▷ cancel
 unfolding verbs numbers released
-released-unsent-is c = refl
+released_unsent_is c = refl
 
-pub confirmed-is : (c : Call) → draft_of c (row_of c CONFIRMED 0) ≡ draft c ▷ confirmed
+pub confirmed_is : (c : Call) → draft_of c (row_of c CONFIRMED 0) ≡ draft c ▷ confirmed
 unfolding verbs numbers confirmed
-confirmed-is c = refl
+confirmed_is c = refl
 
-pub confirmed-late-is : (c : Call) → draft_of c (row_of c (EXPIRED_308 + CONFIRMED) 0) ≡ draft c ▷ expired T308 ▷ confirmed
+pub confirmed_late_is : (c : Call) → draft_of c (row_of c (EXPIRED_308 + CONFIRMED) 0) ≡ draft c ▷ expired T308 ▷ confirmed
 unfolding verbs numbers confirmed
-confirmed-late-is c = refl
+confirmed_late_is c = refl
 
 -- a timer's row where it runs
 pub timed : (c : Call) (b : Bool) (n : ℕ) (d : Draft) → draft_of c (row_asking c n 0 2) ≡ d → draft_of c (cond b (row_asking c n 0 2) none_row) ≡ cond b d (no_row c)

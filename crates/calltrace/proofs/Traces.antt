@@ -79,16 +79,16 @@ lines_then : {s mid rest t u : List ℕ} {c d e : Call} → Lines s c mid d t �
 lines_then {t = t} p none = rw append-nil p
 lines_then {t = t} p (more size q h) = rw (← append_assoc) (more size (lines_then p q) h)
 
-lines-traced : {s rest t u : List ℕ} {c d : Call} → Lines s c rest d t → Trace rest d u → Trace s c (t ++ u)
-lines-traced none r = r
-lines-traced (more size p h) r = rw append_assoc (lines-traced p (whole size h r))
+lines_traced : {s rest t u : List ℕ} {c d : Call} → Lines s c rest d t → Trace rest d u → Trace s c (t ++ u)
+lines_traced none r = r
+lines_traced (more size p h) r = rw append_assoc (lines_traced p (whole size h r))
 
 pub lines_then_trace : LinesThenTrace
-lines_then_trace s rest t u c d p r = lines-traced p r
+lines_then_trace s rest t u c d p r = lines_traced p r
 
 -- lines that are stored stand behind those before them
-pub stored-behind : {old text new : List ℕ} {at next : ℕ} → Stored old at text next new → next ≤ length old → take next new ≡ take at old ++ text
-stored-behind {old} {text} {new} {at} {next} p h =
+pub stored_behind : {old text new : List ℕ} {at next : ℕ} → Stored old at text next new → next ≤ length old → take next new ≡ take at old ++ text
+stored_behind {old} {text} {new} {at} {next} p h =
     rw (p.now, sets-eq text old at (omega (arith, p.end)))
     (take_at (take at old ++ text) (drop (at + length text) old) next (rw (length-append, length-take-le at old (omega (arith, p.end))) (sym p.end)))
 
@@ -119,26 +119,26 @@ same_trace {s} {c = c} (whole size h p) (whole size' h' q) =
 pub one_trace : OneTrace
 one_trace s c t u p q = same_trace p q
 
-traced-by : (most : ℕ) → ((s : List ℕ) (c : Call) → length s < most → Traceable s c) → (s : List ℕ) (c : Call) (a : Ahead) → length s ≤ most
+traced_by : (most : ℕ) → ((s : List ℕ) (c : Call) → length s < most → Traceable s c) → (s : List ℕ) (c : Call) (a : Ahead) → length s ≤ most
     → ahead_in s ≡ a → Traceable s c
-traced-by most shorter [] c a k h = record { text = []; traced = end }
-traced-by most shorter (x ∷ s) c Ahead.Cut k h = record { text = _; traced = cut h (omega arith) }
-traced-by most shorter (x ∷ s) c Ahead.Short k h = record { text = _; traced = short h }
-traced-by most shorter (x ∷ s) c (Ahead.Whole size) k h =
+traced_by most shorter [] c a k h = record { text = []; traced = end }
+traced_by most shorter (x ∷ s) c Ahead.Cut k h = record { text = _; traced = cut h (omega arith) }
+traced_by most shorter (x ∷ s) c Ahead.Short k h = record { text = _; traced = short h }
+traced_by most shorter (x ∷ s) c (Ahead.Whole size) k h =
     let w = whole_in (x ∷ s) h in
     let less : length (drop size (x ∷ s)) < most = rw length-drop (omega arith) in
     record { text = _; traced = whole size h (shorter (drop size (x ∷ s)) (outcome_of c (take size (x ∷ s))).call less).traced }
 
 every_shorter : (most : ℕ) (s : List ℕ) (c : Call) → length s < most → Traceable s c
 every_shorter zero s c k = absurd (omega arith)
-every_shorter (suc most) s c k = traced-by most (every_shorter most) s c _ (omega arith) refl
+every_shorter (suc most) s c k = traced_by most (every_shorter most) s c _ (omega arith) refl
 
 pub every_trace : EveryTrace
 every_trace s c = every_shorter (suc (length s)) s c (omega arith)
 
-pub end-traced : EndTraced
-end-traced [] c h = end
-end-traced (x ∷ xs) c h = rw (ne_eqb (suc (length xs)) 0 (λ e. omega arith)) (cut h (omega arith))
+pub end_traced : EndTraced
+end_traced [] c h = end
+end_traced (x ∷ xs) c h = rw (ne_eqb (suc (length xs)) 0 (λ e. omega arith)) (cut h (omega arith))
 
 -- how a trace on its way grows: it begins with the header,
 pub begins : {old new : List ℕ} {laid : ℕ} → Stored old 0 header laid new → laid ≤ length old → Underway 0 0 [] fresh_call (take laid new)
@@ -148,9 +148,9 @@ begins {old} {new} {laid} p h =
       before = [];
       text = [];
       all_read = refl;
-      all-written = refl;
+      all_written = refl;
       ran = none;
-      said = append-nil header ∙ sym (stored-behind p h);
+      said = append-nil header ∙ sym (stored_behind p h);
     }
 
 said_too : (head text further before lines : List ℕ) → head ++ text ≡ before ++ lines → head ++ (text ++ further) ≡ before ++ (lines ++ further)
@@ -167,9 +167,9 @@ module _ {read written : ℕ} {rest : List ℕ} {c : Call} where
         before = u.before;
         text = u.text ++ p.text;
         all_read = u.all_read;
-        all-written = u.all-written;
+        all_written = u.all_written;
         ran = lines_then u.ran p.ran;
-        said = rw (stored-behind p.stored h) (said_too header u.text p.text u.before (take filled old) u.said);
+        said = rw (stored_behind p.stored h) (said_too header u.text p.text u.before (take filled old) u.said);
       }
 
   -- by writing what is in hand
@@ -180,7 +180,7 @@ module _ {read written : ℕ} {rest : List ℕ} {c : Call} where
         before = u.before ++ lines;
         text = u.text;
         all_read = u.all_read;
-        all-written = rw length-append (omega (arith, u.all-written));
+        all_written = rw length-append (omega (arith, u.all_written));
         ran = u.ran;
         said = rw append-nil u.said;
       }
@@ -194,7 +194,7 @@ module _ {read written : ℕ} {rest : List ℕ} {c : Call} where
         before = u.before;
         text = u.text;
         all_read = rw length-append (omega (arith, u.all_read));
-        all-written = u.all-written;
+        all_written = u.all_written;
         ran = lines_more behind u.ran;
         said = u.said;
       }
@@ -208,9 +208,9 @@ module _ {read written : ℕ} {rest : List ℕ} {c : Call} where
         before = u.before;
         text = u.text ++ text;
         all_read = u.all_read;
-        all-written = u.all-written;
-        traced = lines-traced u.ran r;
-        said = rw (stored-behind p h) (said_too header u.text text u.before (take at old) u.said);
+        all_written = u.all_written;
+        traced = lines_traced u.ran r;
+        said = rw (stored_behind p h) (said_too header u.text text u.before (take at old) u.said);
       }
 
 -- lines in hand are due, with nothing behind them
@@ -218,19 +218,19 @@ pub in_hand_due : {read written : ℕ} {rest : List ℕ} {c : Call} {lines : Lis
 in_hand_due {rest = rest} {c = c} u = record { rest = rest; call = c; after = []; underway = rw append-nil u }
 
 -- behind the lines at the front the others are due
-others-due : (complete : Bool) (read written : ℕ) (front others : List ℕ) → DueIf complete read written (front ++ others)
+others_due : (complete : Bool) (read written : ℕ) (front others : List ℕ) → DueIf complete read written (front ++ others)
     → DueIf complete read (written + length front) others
-others-due true read written front others p =
+others_due true read written front others p =
     record {
       input = p.input;
       before = p.before ++ front;
       text = p.text;
       all_read = p.all_read;
-      all-written = rw length-append (omega (arith, p.all-written));
+      all_written = rw length-append (omega (arith, p.all_written));
       traced = p.traced;
       said = p.said ∙ sym (append_assoc p.before front others);
     }
-others-due false read written front others p =
+others_due false read written front others p =
     let u = p.underway in
     record {
       rest = p.rest;
@@ -241,28 +241,28 @@ others-due false read written front others p =
         before = u.before ++ front;
         text = u.text;
         all_read = u.all_read;
-        all-written = rw length-append (omega (arith, u.all-written));
+        all_written = rw length-append (omega (arith, u.all_written));
         ran = u.ran;
         said = u.said ∙ ap (λ (l : List ℕ). u.before ++ l) (append_assoc front others p.after) ∙ sym (append_assoc u.before front (others ++ p.after));
       };
     }
 
 -- so is what is left of the lines that are laid
-pub left-due : (complete : Bool) (read written : ℕ) (lines : List ℕ) (laid done : ℕ) → done ≤ laid → laid ≤ length lines
+pub left_due : (complete : Bool) (read written : ℕ) (lines : List ℕ) (laid done : ℕ) → done ≤ laid → laid ≤ length lines
     → DueIf complete read written (take laid lines) → DueIf complete read (written + done) (take (laid - done) (drop done lines))
-left-due complete read written lines laid done h k p =
+left_due complete read written lines laid done h k p =
     let all : laid ≡ done + (laid - done) = omega arith in
     let long : length (take done lines) ≡ done = length-take-le done lines (omega arith) in
     let parts : take laid lines ≡ take done lines ++ take (laid - done) (drop done lines) = ap (λ (n : ℕ). take n lines) all ∙ take-add done (laid - done) lines in
-    rw long at (others-due complete read written (take done lines) (take (laid - done) (drop done lines)) (subst (DueIf complete read written) parts p))
+    rw long at (others_due complete read written (take done lines) (take (laid - done) (drop done lines)) (subst (DueIf complete read written) parts p))
 
 -- where lines are due, so is none of them
-none-due : {read written : ℕ} {lines : List ℕ} → Due read written lines → Due read written []
-none-due {lines = lines} p = record { rest = p.rest; call = p.call; after = lines ++ p.after; underway = p.underway }
+none_due : {read written : ℕ} {lines : List ℕ} → Due read written lines → Due read written []
+none_due {lines = lines} p = record { rest = p.rest; call = p.call; after = lines ++ p.after; underway = p.underway }
 
 -- at the end all of the lines in hand are due where they are complete, else none
-pub due-at-end : (complete unwritten : Bool) (read written laid : ℕ) (lines : List ℕ) → InHandIf complete unwritten read written (take laid lines)
+pub due_at_end : (complete unwritten : Bool) (read written laid : ℕ) (lines : List ℕ) → InHandIf complete unwritten read written (take laid lines)
     → DueIf complete read written (take (cond complete laid 0) lines)
-due-at-end true unwritten read written laid lines p = p
-due-at-end false true read written laid lines p = none-due p.1
-due-at-end false false read written laid lines p = none-due p.1
+due_at_end true unwritten read written laid lines p = p
+due_at_end false true read written laid lines p = none_due p.1
+due_at_end false false read written laid lines p = none_due p.1

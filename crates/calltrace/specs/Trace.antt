@@ -20,7 +20,7 @@ pub record Complete (read written : ℕ) (lines : List ℕ) : Type 0 where
   pub before : List ℕ
   pub text : List ℕ
   pub all_read : length input ≡ read
-  pub all-written : length before ≡ written
+  pub all_written : length before ≡ written
   pub traced : Trace input fresh_call text
   pub said : header ++ text ≡ before ++ lines
 
@@ -30,7 +30,7 @@ pub record Underway (read written : ℕ) (rest : List ℕ) (call : Call) (lines 
   pub before : List ℕ
   pub text : List ℕ
   pub all_read : length input ≡ read
-  pub all-written : length before ≡ written
+  pub all_written : length before ≡ written
   pub ran : Lines input fresh_call rest call text
   pub said : header ++ text ≡ before ++ lines
 

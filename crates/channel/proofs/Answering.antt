@@ -21,7 +21,7 @@ use Rattle.channel.specs.Rooms.{free_room, is_free, has_number, waits_for, of_ca
 use Rattle.channel.specs.Questions.{Outcome, refusal, carried, asked_of, decision_of, first_out, taken, asked_as, decided_as, ask_of, decide_of, ended_of, rejects_in}
 use Rattle.channel.specs.Runs.{Turn, question, decision, end, outcome}
 use Rattle.channel.specs.Answers.{applies, first_of, AnsweredInOrder}
-use Rattle.channel.proofs.Turns.{seven, size-rejects_in}
+use Rattle.channel.proofs.Turns.{seven, size_rejects_in}
 
 -- over, and within
 over : (m n : ℕ) → ltb m n ≡ not (leb n m)
@@ -32,9 +32,9 @@ over m n = by (leb n m) refl
     by false e = lt-ltb m n (leb-false n m e)
 
 -- 7 where what is written does not fit
-carried-answer : (rooms after : List Room) (ms : List Message) (b : List ℕ) (k : ℕ) → length (bytes_of ms) ≡ k → (carried rooms after ms b).answer ≡ cond (ltb (length b) k) 7 0
+carried_answer : (rooms after : List Room) (ms : List Message) (b : List ℕ) (k : ℕ) → length (bytes_of ms) ≡ k → (carried rooms after ms b).answer ≡ cond (ltb (length b) k) 7 0
 unfolding carried
-carried-answer rooms after ms b k e = rw (over (length b) k, ← e) (by (leb (length (bytes_of ms)) (length b)))
+carried_answer rooms after ms b k e = rw (over (length b) k, ← e) (by (leb (length (bytes_of ms)) (length b)))
   where
     by : (f : Bool) → (cond f (record { answer = 0; rooms = after; count = length (bytes_of ms); buffer = sets b 0 (bytes_of ms) }) (refusal 7 rooms b)).answer ≡ cond (not f) 7 0
     by true = refl
@@ -88,14 +88,14 @@ module _ (rooms : List Room) (n c : ℕ) (b : List ℕ) where
       ≡ cond (not (rooms_sound rooms)) 1 (cond (not (leb c 16383) || false) 4 (cond (some? (has_number n) rooms) 50 (cond (ltb (length b) 7) 7 0)))
   now v =
       in_turn (rooms_sound rooms) (leb c 16383) (some? (has_number n) rooms) _
-      ∙ ap (λ (x : ℕ). cond (not (rooms_sound rooms)) 1 (cond (not (leb c 16383) || false) 4 (cond (some? (has_number n) rooms) 50 x))) (carried-answer rooms rooms (Message.ChannelAnswer n v ∷ []) b 7 (seven n v))
+      ∙ ap (λ (x : ℕ). cond (not (rooms_sound rooms)) 1 (cond (not (leb c 16383) || false) 4 (cond (some? (has_number n) rooms) 50 x))) (carried_answer rooms rooms (Message.ChannelAnswer n v ∷ []) b 7 (seven n v))
 
-  room-answer : (w : Wait) (k : ℕ) → length (bytes_of (first_out w)) ≡ k → (taken rooms n c w b).answer ≡ cond (not (some? is_free rooms)) 51 (cond (ltb (length b) k) 7 0)
+  room_answer : (w : Wait) (k : ℕ) → length (bytes_of (first_out w)) ≡ k → (taken rooms n c w b).answer ≡ cond (not (some? is_free rooms)) 51 (cond (ltb (length b) k) 7 0)
   unfolding taken
-  room-answer w k e = by (some? is_free rooms)
+  room_answer w k e = by (some? is_free rooms)
     where
       by : (f : Bool) → (cond f (carried rooms (in_first is_free (record { wait = w; number = n; call = c }) rooms) (first_out w) b) (refusal 51 rooms b)).answer ≡ cond (not f) 51 (cond (ltb (length b) k) 7 0)
-      by true = carried-answer rooms _ (first_out w) b k e
+      by true = carried_answer rooms _ (first_out w) b k e
       by false = refl
 
   room : (w : Wait) (k : ℕ) → length (bytes_of (first_out w)) ≡ k
@@ -103,7 +103,7 @@ module _ (rooms : List Room) (n c : ℕ) (b : List ℕ) where
       ≡ cond (not (rooms_sound rooms)) 1 (cond (not (leb c 16383) || false) 4 (cond (some? (has_number n) rooms) 50 (cond (not (some? is_free rooms)) 51 (cond (ltb (length b) k) 7 0))))
   room w k e =
       in_turn (rooms_sound rooms) (leb c 16383) (some? (has_number n) rooms) _
-      ∙ ap (λ (x : ℕ). cond (not (rooms_sound rooms)) 1 (cond (not (leb c 16383) || false) 4 (cond (some? (has_number n) rooms) 50 x))) (room-answer w k e)
+      ∙ ap (λ (x : ℕ). cond (not (rooms_sound rooms)) 1 (cond (not (leb c 16383) || false) 4 (cond (some? (has_number n) rooms) 50 x))) (room_answer w k e)
 
   at_0 : InOrder 0
   unfolding ask_of asked_of applies
@@ -164,7 +164,7 @@ module _ (rooms : List Room) (n : ℕ) (b : List ℕ) where
           ≡ cond (not s) 1 (cond (not f) 52 (cond (ltb (length b) 7) 7 0))
       by false f = refl
       by true false = refl
-      by true true = carried-answer rooms _ (Message.ChannelAnswer n v ∷ []) b 7 (seven n v)
+      by true true = carried_answer rooms _ (Message.ChannelAnswer n v ∷ []) b 7 (seven n v)
 
   for_0 : Decided 0
   unfolding decide_of decision_of applies
@@ -208,7 +208,7 @@ module _ (rooms : List Room) (c : ℕ) (b : List ℕ) where
           ≡ cond (not s) 1 (cond (not l) 4 (cond (ltb (length b) (7 * count (of_call c) rooms)) 7 0))
       by false l = refl
       by true false = refl
-      by true true = carried-answer rooms _ (rejects_in c rooms) b _ (size-rejects_in c rooms)
+      by true true = carried_answer rooms _ (rejects_in c rooms) b _ (size_rejects_in c rooms)
 
 pub answered_in_order : AnsweredInOrder
 unfolding outcome

@@ -58,8 +58,8 @@ unfolding lay_all
 lay_same [] at b = refl
 lay_same (m ∷ ms) at b = lay_same ms (laid_next (message_bytes m) b at) (laid (message_bytes m) b at) ∙ laid_same (message_bytes m) b at
 
-pub same-room : {b after : List ℕ} {at end : ℕ} {ms : List Message} → Laid b at ms end after → length after ≡ length b
-same-room {b} {after} {at} {end} {ms} l = ap (λ (w : ℕ × List ℕ). length w.1) l.is ∙ lay_same ms at b
+pub same_room : {b after : List ℕ} {at end : ℕ} {ms : List Message} → Laid b at ms end after → length after ≡ length b
+same_room {b} {after} {at} {end} {ms} l = ap (λ (w : ℕ × List ℕ). length w.1) l.is ∙ lay_same ms at b
 
 -- nothing to write
 pub silent : (rooms next : List Room) (b : List ℕ) → ◌≡◌ {A = Outcome} (record { answer = 0; rooms = next; count = 0; buffer = b }) (carried rooms next [] b)
@@ -88,23 +88,23 @@ module _ (rooms : List Room) (number call asked : ℕ) (b : List ℕ) where
   ask_unsound s = rw s
 
   module _ (s : rooms_sound rooms ≡ true) where
-    pub ask-call : 16383 < call → refusal 4 rooms b ≡ ask_of rooms number call asked b
+    pub ask_call : 16383 < call → refusal 4 rooms b ≡ ask_of rooms number call asked b
     unfolding ask_of
-    ask-call h = rw (s, lt-leb _ _ h)
+    ask_call h = rw (s, lt-leb _ _ h)
 
     module _ (c : call ≤ 16383) where
       pub ask_unknown : Asked.Unknown ≡ asked_of asked → refusal 4 rooms b ≡ ask_of rooms number call asked b
       unfolding ask_of
       ask_unknown h = rw (s, le-leb _ _ c, ← h)
 
-      pub ask-waits : (reply : Reply) → Asked.Is reply ≡ asked_of asked → some? (has_number number) rooms ≡ true → refusal 50 rooms b ≡ ask_of rooms number call asked b
+      pub ask_waits : (reply : Reply) → Asked.Is reply ≡ asked_of asked → some? (has_number number) rooms ≡ true → refusal 50 rooms b ≡ ask_of rooms number call asked b
       unfolding ask_of
-      ask-waits reply h w = rw (s, le-leb _ _ c, ← h, w)
+      ask_waits reply h w = rw (s, le-leb _ _ c, ← h, w)
 
-      pub ask-replied : (reply : Reply) (x : Outcome) → Asked.Is reply ≡ asked_of asked → some? (has_number number) rooms ≡ false → x ≡ replied reply rooms number call b
+      pub ask_replied : (reply : Reply) (x : Outcome) → Asked.Is reply ≡ asked_of asked → some? (has_number number) rooms ≡ false → x ≡ replied reply rooms number call b
           → x ≡ ask_of rooms number call asked b
       unfolding ask_of
-      ask-replied reply x h w g = rw (s, le-leb _ _ c, ← h, w) g
+      ask_replied reply x h w g = rw (s, le-leb _ _ c, ← h, w) g
 
 -- a decision
 
@@ -131,9 +131,9 @@ module _ (rooms : List Room) (number decision : ℕ) (b : List ℕ) where
 
 -- an end
 
-pub size-rejects : (c : ℕ) (r : Room) → reject_size c r ≡ length (bytes_of (rejects c r))
+pub size_rejects : (c : ℕ) (r : Room) → reject_size c r ≡ length (bytes_of (rejects c r))
 unfolding rejects reject_size bytes_of message_size flat_size
-size-rejects c r = by (of_call c r)
+size_rejects c r = by (of_call c r)
   where
     by : (o : Bool) → cond o 7 0 ≡ length (bytes_of (cond o (Message.ChannelAnswer r.number reject ∷ []) []))
     by true = sym (size_one (Message.ChannelAnswer r.number reject))
@@ -149,23 +149,23 @@ unfolding rejects
 lays_nothing c r h = lay_none (rw h)
 
 module _ (rooms : List Room) (e : length rooms ≡ 4) (c : ℕ) where
-  rejects-four : rejects_in c rooms ≡ rejects c (room_at rooms 0) ++ (rejects c (room_at rooms 1) ++ (rejects c (room_at rooms 2) ++ (rejects c (room_at rooms 3) ++ [])))
-  rejects-four = rw (four rooms e)
+  rejects_four : rejects_in c rooms ≡ rejects c (room_at rooms 0) ++ (rejects c (room_at rooms 1) ++ (rejects c (room_at rooms 2) ++ (rejects c (room_at rooms 3) ++ [])))
+  rejects_four = rw (four rooms e)
 
-  freed-four : freed c (room_at rooms 0) ∷ freed c (room_at rooms 1) ∷ freed c (room_at rooms 2) ∷ freed c (room_at rooms 3) ∷ [] ≡ all_freed c rooms
-  freed-four = rw (four rooms e)
+  freed_four : freed c (room_at rooms 0) ∷ freed c (room_at rooms 1) ∷ freed c (room_at rooms 2) ∷ freed c (room_at rooms 3) ∷ [] ≡ all_freed c rooms
+  freed_four = rw (four rooms e)
 
-  pub size-four : reject_size c (room_at rooms 0) + (reject_size c (room_at rooms 1) + (reject_size c (room_at rooms 2) + reject_size c (room_at rooms 3))) ≡ length (bytes_of (rejects_in c rooms))
+  pub size_four : reject_size c (room_at rooms 0) + (reject_size c (room_at rooms 1) + (reject_size c (room_at rooms 2) + reject_size c (room_at rooms 3))) ≡ length (bytes_of (rejects_in c rooms))
   unfolding bytes_of
-  size-four =
-      rw rejects-four
+  size_four =
+      rw rejects_four
       (simp size-append
       (omega
-      (arith, size-rejects c (room_at rooms 0), size-rejects c (room_at rooms 1), size-rejects c (room_at rooms 2), size-rejects c (room_at rooms 3))))
+      (arith, size_rejects c (room_at rooms 0), size_rejects c (room_at rooms 1), size_rejects c (room_at rooms 2), size_rejects c (room_at rooms 3))))
 
-  pub laid-four : {b b₁ b₂ b₃ b₄ : List ℕ} {p q r s : ℕ} → Laid b 0 (rejects c (room_at rooms 0)) p b₁ → Laid b₁ p (rejects c (room_at rooms 1)) q b₂
+  pub laid_four : {b b₁ b₂ b₃ b₄ : List ℕ} {p q r s : ℕ} → Laid b 0 (rejects c (room_at rooms 0)) p b₁ → Laid b₁ p (rejects c (room_at rooms 1)) q b₂
       → Laid b₂ q (rejects c (room_at rooms 2)) r b₃ → Laid b₃ r (rejects c (room_at rooms 3)) s b₄ → Laid b 0 (rejects_in c rooms) s b₄
-  laid-four l₁ l₂ l₃ l₄ = rw rejects-four (lay_then l₁ (lay_then l₂ (lay_then l₃ (lay_then l₄ (lay_none refl)))))
+  laid_four l₁ l₂ l₃ l₄ = rw rejects_four (lay_then l₁ (lay_then l₂ (lay_then l₃ (lay_then l₄ (lay_none refl)))))
 
   -- the four rooms then, with what was laid for each
   pub end_done : {b b₁ b₂ b₃ b₄ : List ℕ} {n p q r s : ℕ} {f₀ f₁ f₂ f₃ : Room} → n ≡ length (bytes_of (rejects_in c rooms)) → n ≤ length b
@@ -174,7 +174,7 @@ module _ (rooms : List Room) (e : length rooms ≡ 4) (c : ℕ) where
       → f₃ ≡ freed c (room_at rooms 3)
       → ◌≡◌ {A = Outcome} (record { answer = 0; rooms = f₀ ∷ f₁ ∷ f₂ ∷ f₃ ∷ []; count = n; buffer = b₄ }) (carried rooms (all_freed c rooms) (rejects_in c rooms) b)
   end_done size room l₁ l₂ l₃ l₄ g₀ g₁ g₂ g₃ =
-      rw (g₀, g₁, g₂, g₃, freed-four) (fitting rooms (all_freed c rooms) (rejects_in c rooms) _ _ _ _ size room (laid-four l₁ l₂ l₃ l₄))
+      rw (g₀, g₁, g₂, g₃, freed_four) (fitting rooms (all_freed c rooms) (rejects_in c rooms) _ _ _ _ size room (laid_four l₁ l₂ l₃ l₄))
 
 module _ (rooms : List Room) (c : ℕ) (b : List ℕ) where
   pub end_unsound : rooms_sound rooms ≡ false → refusal 1 rooms b ≡ ended_of rooms c b
@@ -182,10 +182,10 @@ module _ (rooms : List Room) (c : ℕ) (b : List ℕ) where
   end_unsound s = rw s
 
   module _ (s : rooms_sound rooms ≡ true) where
-    pub end-call : 16383 < c → refusal 4 rooms b ≡ ended_of rooms c b
+    pub end_call : 16383 < c → refusal 4 rooms b ≡ ended_of rooms c b
     unfolding ended_of
-    end-call h = rw (s, lt-leb _ _ h)
+    end_call h = rw (s, lt-leb _ _ h)
 
-    pub end-rejects : (x : Outcome) → c ≤ 16383 → x ≡ carried rooms (all_freed c rooms) (rejects_in c rooms) b → x ≡ ended_of rooms c b
+    pub end_rejects : (x : Outcome) → c ≤ 16383 → x ≡ carried rooms (all_freed c rooms) (rejects_in c rooms) b → x ≡ ended_of rooms c b
     unfolding ended_of
-    end-rejects x h g = rw (s, le-leb _ _ h) g
+    end_rejects x h g = rw (s, le-leb _ _ h) g

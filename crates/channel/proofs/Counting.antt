@@ -14,33 +14,33 @@ use Rattle.channel.specs.Rooms.{wait_number, free_room, is_free, has_number, wai
 
 -- ---- some room, and how many
 
-pub some-count : (p : Room → Bool) (rooms : List Room) → some? p rooms ≡ true → 1 ≤ count p rooms
-some-count p [] h = facts.apart h refl
-some-count p (r ∷ rs) h = by (p r) h (some-count p rs)
+pub some_count : (p : Room → Bool) (rooms : List Room) → some? p rooms ≡ true → 1 ≤ count p rooms
+some_count p [] h = facts.apart h refl
+some_count p (r ∷ rs) h = by (p r) h (some_count p rs)
   where
     by : (b : Bool) → b || some? p rs ≡ true → (some? p rs ≡ true → 1 ≤ count p rs) → 1 ≤ cond b 1 0 + count p rs
     by true h again = omega arith
     by false h again = let z = again h in omega arith
 
-pub count-some : (p : Room → Bool) (rooms : List Room) → 1 ≤ count p rooms → some? p rooms ≡ true
-count-some p [] h = absurd (omega arith)
-count-some p (r ∷ rs) h = by (p r) h (count-some p rs)
+pub count_some : (p : Room → Bool) (rooms : List Room) → 1 ≤ count p rooms → some? p rooms ≡ true
+count_some p [] h = absurd (omega arith)
+count_some p (r ∷ rs) h = by (p r) h (count_some p rs)
   where
     by : (b : Bool) → 1 ≤ cond b 1 0 + count p rs → (1 ≤ count p rs → some? p rs ≡ true) → b || some? p rs ≡ true
     by true h again = refl
     by false h again = again (omega arith)
 
-pub none-count : (p : Room → Bool) (rooms : List Room) → some? p rooms ≡ false → count p rooms ≡ 0
-none-count p [] h = refl
-none-count p (r ∷ rs) h = by (p r) h (none-count p rs)
+pub none_count : (p : Room → Bool) (rooms : List Room) → some? p rooms ≡ false → count p rooms ≡ 0
+none_count p [] h = refl
+none_count p (r ∷ rs) h = by (p r) h (none_count p rs)
   where
     by : (b : Bool) → b || some? p rs ≡ false → (some? p rs ≡ false → count p rs ≡ 0) → cond b 1 0 + count p rs ≡ 0
     by true h again = facts.apart refl h
     by false h again = let z = again h in omega arith
 
-pub count-length : (p : Room → Bool) (rooms : List Room) → count p rooms ≤ length rooms
-count-length p [] = omega arith
-count-length p (r ∷ rs) = by (p r) (count-length p rs)
+pub count_length : (p : Room → Bool) (rooms : List Room) → count p rooms ≤ length rooms
+count_length p [] = omega arith
+count_length p (r ∷ rs) = by (p r) (count_length p rs)
   where
     by : (b : Bool) → count p rs ≤ length rs → cond b 1 0 + count p rs ≤ length (r ∷ rs)
     by true le = omega arith
@@ -80,9 +80,9 @@ mono p q h (r ∷ rs) = by (p r) (q r) (h r) (mono p q h rs)
 -- ---- another content
 
 module _ (p q : Room → Bool) (v : Bool) (alike : (r : Room) → p r ≡ true → q r ≡ v) (x : Room) where
-  pub count-first : (rooms : List Room) → some? p rooms ≡ true → count q (in_first p x rooms) + cond v 1 0 ≡ cond (q x) 1 0 + count q rooms
-  count-first [] h = facts.apart h refl
-  count-first (r ∷ rs) h = by (p r) refl h (count-first rs)
+  pub count_first : (rooms : List Room) → some? p rooms ≡ true → count q (in_first p x rooms) + cond v 1 0 ≡ cond (q x) 1 0 + count q rooms
+  count_first [] h = facts.apart h refl
+  count_first (r ∷ rs) h = by (p r) refl h (count_first rs)
     where
       by : (b : Bool) → p r ≡ b → b || some? p rs ≡ true → (some? p rs ≡ true → count q (in_first p x rs) + cond v 1 0 ≡ cond (q x) 1 0 + count q rs)
           → count q (cond b (x ∷ rs) (r ∷ in_first p x rs)) + cond v 1 0 ≡ cond (q x) 1 0 + (cond (q r) 1 0 + count q rs)
@@ -107,11 +107,11 @@ every_first q p x is (r ∷ rs) h = by (p r) (every_first q p x is rs (facts.rig
 
 -- ---- the rooms of a call freed
 
-pub count-freed : (q : Room → Bool) (c : ℕ) → q free_room ≡ false → (rooms : List Room)
+pub count_freed : (q : Room → Bool) (c : ℕ) → q free_room ≡ false → (rooms : List Room)
     → count q (all_freed c rooms) + count (λ r. q r && of_call c r) rooms ≡ count q rooms
 unfolding freed
-count-freed q c f [] = refl
-count-freed q c f (r ∷ rs) = by (of_call c r) (q r) refl (count-freed q c f rs)
+count_freed q c f [] = refl
+count_freed q c f (r ∷ rs) = by (of_call c r) (q r) refl (count_freed q c f rs)
   where
     by : (o k : Bool) → q r ≡ k → count q (all_freed c rs) + count (λ s. q s && of_call c s) rs ≡ count q rs
         → cond (q (cond o free_room r)) 1 0 + count q (all_freed c rs) + (cond (k && o) 1 0 + count (λ s. q s && of_call c s) rs) ≡ cond k 1 0 + count q rs
@@ -124,10 +124,10 @@ pub length-freed : (c : ℕ) (rooms : List Room) → length (all_freed c rooms) 
 length-freed c [] = refl
 length-freed c (r ∷ rs) = let z = length-freed c rs in omega arith
 
-pub every-freed : (q : Room → Bool) (c : ℕ) → q free_room ≡ true → (rooms : List Room) → every? q rooms ≡ true → every? q (all_freed c rooms) ≡ true
+pub every_freed : (q : Room → Bool) (c : ℕ) → q free_room ≡ true → (rooms : List Room) → every? q rooms ≡ true → every? q (all_freed c rooms) ≡ true
 unfolding freed
-every-freed q c f [] h = refl
-every-freed q c f (r ∷ rs) h = facts.and _ _ (by (of_call c r)) (every-freed q c f rs (facts.right (q r) _ h))
+every_freed q c f [] h = refl
+every_freed q c f (r ∷ rs) h = facts.and _ _ (by (of_call c r)) (every_freed q c f rs (facts.right (q r) _ h))
   where
     by : (o : Bool) → q (cond o free_room r) ≡ true
     by true = f
@@ -139,9 +139,9 @@ pub free_no_number : (n : ℕ) (r : Room) → is_free r ≡ true → has_number 
 unfolding has_number
 free_no_number n r e = rw e
 
-pub number-held : (n : ℕ) (r : Room) → has_number n r ≡ true → is_free r ≡ false
+pub number_held : (n : ℕ) (r : Room) → has_number n r ≡ true → is_free r ≡ false
 unfolding has_number
-number-held n r h = facts.is_not _ (facts.left _ _ h)
+number_held n r h = facts.is_not _ (facts.left _ _ h)
 
 pub number_is : (n : ℕ) (r : Room) → has_number n r ≡ true → r.number ≡ n
 unfolding has_number
@@ -151,15 +151,15 @@ pub has_own : (n : ℕ) (r : Room) → is_free r ≡ false → has_number n r �
 unfolding has_number
 has_own n r e = rw e
 
-pub waits-number : (n m : ℕ) (w : Wait) (r : Room) → waits_for n w r ≡ true → has_number m r ≡ eqb n m
+pub waits_number : (n m : ℕ) (w : Wait) (r : Room) → waits_for n w r ≡ true → has_number m r ≡ eqb n m
 unfolding waits_for
-waits-number n m w r h =
+waits_number n m w r h =
     let k = facts.left (has_number n r) _ h in
-    has_own m r (number-held n r k) ∙ ap (λ (z : ℕ). eqb z m) (number_is n r k)
+    has_own m r (number_held n r k) ∙ ap (λ (z : ℕ). eqb z m) (number_is n r k)
 
-pub call-held : (c : ℕ) (r : Room) → of_call c r ≡ true → is_free r ≡ false
+pub call_held : (c : ℕ) (r : Room) → of_call c r ≡ true → is_free r ≡ false
 unfolding of_call
-call-held c r h = facts.is_not _ (facts.left _ _ h)
+call_held c r h = facts.is_not _ (facts.left _ _ h)
 
 -- ---- sound rooms
 
@@ -167,14 +167,14 @@ alone : (n : ℕ) (r : Room) (rooms : List Room) → every? (apart_from r) rooms
 unfolding apart_from
 alone n r [] h k = refl
 alone n r (s ∷ ss) h k =
-    let not_s : not (has_number r.number s) ≡ true = facts.second (is_free r) _ (facts.left (is_free r || not (has_number r.number s)) _ h) (number-held n r k) in
+    let not_s : not (has_number r.number s) ≡ true = facts.second (is_free r) _ (facts.left (is_free r || not (has_number r.number s)) _ h) (number_held n r k) in
     let s_not : has_number n s ≡ false = ap (λ (z : ℕ). has_number z s) (sym (number_is n r k)) ∙ facts.is_not _ not_s in
     let z = alone n r ss (facts.right (is_free r || not (has_number r.number s)) _ h) k in
     rw s_not (omega (arith, z))
 
-pub apart-count : (rooms : List Room) → apart rooms ≡ true → (n : ℕ) → count (has_number n) rooms ≤ 1
-apart-count [] h n = omega arith
-apart-count (r ∷ rs) h n = by (has_number n r) (alone n r rs (facts.left (every? (apart_from r) rs) _ h)) (apart-count rs (facts.right (every? (apart_from r) rs) _ h) n)
+pub apart_count : (rooms : List Room) → apart rooms ≡ true → (n : ℕ) → count (has_number n) rooms ≤ 1
+apart_count [] h n = omega arith
+apart_count (r ∷ rs) h n = by (has_number n r) (alone n r rs (facts.left (every? (apart_from r) rs) _ h)) (apart_count rs (facts.right (every? (apart_from r) rs) _ h) n)
   where
     by : (b : Bool) → (b ≡ true → count (has_number n) rs ≡ 0) → count (has_number n) rs ≤ 1 → cond b 1 0 + count (has_number n) rs ≤ 1
     by true none le = let z = none refl in omega arith
@@ -191,12 +191,12 @@ all_apart r (s ∷ ss) h = by (is_free r) (has_number r.number s) refl h (all_ap
     by false true e k again = let z = k refl in absurd (omega arith)
     by false false e k again = again (λ n. let z = k refl in omega arith)
 
-pub count-apart : (rooms : List Room) → ((n : ℕ) → count (has_number n) rooms ≤ 1) → apart rooms ≡ true
-count-apart [] h = refl
-count-apart (r ∷ rs) h =
+pub count_apart : (rooms : List Room) → ((n : ℕ) → count (has_number n) rooms ≤ 1) → apart rooms ≡ true
+count_apart [] h = refl
+count_apart (r ∷ rs) h =
     facts.and _ _
     (all_apart r rs (λ e. let own : has_number r.number r ≡ true = has_own r.number r e ∙ eq-eqb r.number r.number refl in let z = rw own at (h r.number) in omega (arith, z)))
-    (count-apart rs (λ n. let z = h n in omega (arith, z)))
+    (count_apart rs (λ n. let z = h n in omega (arith, z)))
 
 pub record Sound (rooms : List Room) : Type 0 where
   pub four : length rooms ≡ 4
@@ -207,8 +207,8 @@ pub sound_of : (rooms : List Room) → rooms_sound rooms ≡ true → Sound room
 unfolding rooms_sound
 sound_of rooms h =
     let k = facts.right (eqb (length rooms) 4) _ h in
-    record { four = eqb-true (length rooms) 4 (facts.left (eqb (length rooms) 4) _ h); fit = facts.left (every? room_fits rooms) _ k; once = apart-count rooms (facts.right (every? room_fits rooms) _ k) }
+    record { four = eqb-true (length rooms) 4 (facts.left (eqb (length rooms) 4) _ h); fit = facts.left (every? room_fits rooms) _ k; once = apart_count rooms (facts.right (every? room_fits rooms) _ k) }
 
-pub sound-is : (rooms : List Room) → Sound rooms → rooms_sound rooms ≡ true
+pub sound_is : (rooms : List Room) → Sound rooms → rooms_sound rooms ≡ true
 unfolding rooms_sound
-sound-is rooms s = facts.and _ _ (eq-eqb (length rooms) 4 s.four) (facts.and _ _ s.fit (count-apart rooms s.once))
+sound_is rooms s = facts.and _ _ (eq-eqb (length rooms) 4 s.four) (facts.and _ _ s.fit (count_apart rooms s.once))

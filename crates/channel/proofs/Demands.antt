@@ -8,7 +8,7 @@ use Rattle.channel.specs.Rooms.{rooms_sound}
 use Rattle.channel.specs.Runs.{Turn, outcome}
 use Rattle.channel.specs.Answers.{AnsweredInOrder, applies}
 use Rattle.channel.specs.Demands as claims
-use Rattle.channel.proofs.Counting.{sound-is}
+use Rattle.channel.proofs.Counting.{sound_is}
 use Rattle.channel.proofs.Kept.{always}
 use Rattle.channel.proofs.Once as Once
 use Rattle.channel.proofs.Waiting as Waiting
@@ -16,14 +16,14 @@ use Rattle.channel.proofs.Individual as Individual
 use Rattle.channel.proofs.Written as Written
 use Rattle.channel.proofs.Answering as Answering
 
-pub rooms-sound : claims.RoomsSound
-rooms-sound ts = sound-is (claims.after ts) (always ts)
+pub rooms_sound_lem : claims.RoomsSound
+rooms_sound_lem ts = sound_is (claims.after ts) (always ts)
 
 pub never_unsound : claims.NeverUnsound
-never_unsound ts t = Written.sound_not_one (claims.after ts) t (rooms-sound ts)
+never_unsound ts t = Written.sound_not_one (claims.after ts) t (rooms_sound_lem ts)
 
-pub four-rooms : claims.FourRooms
-four-rooms ts = (always ts).four
+pub four_rooms : claims.FourRooms
+four_rooms ts = (always ts).four
 
 pub no_two_wait : claims.NoTwoWait
 no_two_wait ts n = (always ts).once n
@@ -55,14 +55,14 @@ then = Waiting.then_claim
 pub individual : claims.Individual
 individual = Individual.individual
 
-pub individual-taken : claims.IndividualTaken
-individual-taken = Individual.individual-taken
+pub individual_taken : claims.IndividualTaken
+individual_taken = Individual.individual_taken
 
-pub ending-pdu : claims.EndingPdu
-ending-pdu = Individual.ending-pdu
+pub ending_pdu : claims.EndingPdu
+ending_pdu = Individual.ending_pdu
 
-pub reads-back : claims.ReadsBack
-reads-back = Written.reads-back
+pub reads_back : claims.ReadsBack
+reads_back = Written.reads_back
 
 pub at_most : claims.AtMost
 at_most = Written.at_most

@@ -56,35 +56,35 @@ determined o r₁ r₂ b₁ b₂ p q =
 pub channel_number_lem : (κs : _) (a : _) (r₁ r₂ : _) (e₁ e₂ : _) → channel-number-promise.Learnt κs a r₁ e₁ → channel-number-promise.Learnt κs a r₂ e₂ → r₁ ≡ r₂
 channel_number_lem κs a r₁ r₂ e₁ e₂ p q = p.0 ∙ sym q.0
 
-pub wait-number : (κs : _) (a : _) (r₁ r₂ : _) (e₁ e₂ : _) → wait-number-promise.Learnt κs a r₁ e₁ → wait-number-promise.Learnt κs a r₂ e₂ → r₁ ≡ r₂
-wait-number κs a r₁ r₂ e₁ e₂ p q = p.0 ∙ sym q.0
+pub wait_number : (κs : _) (a : _) (r₁ r₂ : _) (e₁ e₂ : _) → wait-number-promise.Learnt κs a r₁ e₁ → wait-number-promise.Learnt κs a r₂ e₂ → r₁ ≡ r₂
+wait_number κs a r₁ r₂ e₁ e₂ p q = p.0 ∙ sym q.0
 
 pub of_call : (κs : _) (a : _) (r₁ r₂ : _) (e₁ e₂ : _) → of-call-promise.Learnt κs a r₁ e₁ → of-call-promise.Learnt κs a r₂ e₂ → r₁ ≡ r₂
 of_call κs a r₁ r₂ e₁ e₂ p q = p ∙ sym q
 
-pub fresh-rooms : (κs : _) (a : _) (r₁ r₂ : _) (e₁ e₂ : _) → fresh-rooms-promise.Learnt κs a r₁ e₁ → fresh-rooms-promise.Learnt κs a r₂ e₂ → r₁ ≡ r₂
-fresh-rooms κs a r₁ r₂ e₁ e₂ p q = p ∙ sym q
+pub fresh_rooms : (κs : _) (a : _) (r₁ r₂ : _) (e₁ e₂ : _) → fresh-rooms-promise.Learnt κs a r₁ e₁ → fresh-rooms-promise.Learnt κs a r₂ e₂ → r₁ ≡ r₂
+fresh_rooms κs a r₁ r₂ e₁ e₂ p q = p ∙ sym q
 
-pub number-waits : (κs : _) (a : _) (r₁ r₂ : _) (e₁ e₂ : _) → number-waits-promise.Learnt κs a r₁ e₁ → number-waits-promise.Learnt κs a r₂ e₂ → r₁ ≡ r₂
-number-waits κs a r₁ r₂ e₁ e₂ p q = p ∙ sym q
+pub number_waits : (κs : _) (a : _) (r₁ r₂ : _) (e₁ e₂ : _) → number-waits-promise.Learnt κs a r₁ e₁ → number-waits-promise.Learnt κs a r₂ e₂ → r₁ ≡ r₂
+number_waits κs a r₁ r₂ e₁ e₂ p q = p ∙ sym q
 
-pub rooms-sound : (κs : _) (a : _) (r₁ r₂ : _) (e₁ e₂ : _) → rooms-sound-promise.Learnt κs a r₁ e₁ → rooms-sound-promise.Learnt κs a r₂ e₂ → r₁ ≡ r₂
-rooms-sound κs a r₁ r₂ e₁ e₂ p q = p ∙ sym q
+pub rooms_sound_lem : (κs : _) (a : _) (r₁ r₂ : _) (e₁ e₂ : _) → rooms-sound-promise.Learnt κs a r₁ e₁ → rooms-sound-promise.Learnt κs a r₂ e₂ → r₁ ≡ r₂
+rooms_sound_lem κs a r₁ r₂ e₁ e₂ p q = p ∙ sym q
 
 pub first_free : (κs : _) (a : _) (r₁ r₂ : _) (e₁ e₂ : _) → first-free-promise.Learnt κs a r₁ e₁ → first-free-promise.Learnt κs a r₂ e₂ → r₁ ≡ r₂
 first_free κs a r₁ r₂ e₁ e₂ p q = p ∙ sym q
 
-pub first-waiting : (κs : _) (a : _) (r₁ r₂ : _) (e₁ e₂ : _) → first-waiting-promise.Learnt κs a r₁ e₁ → first-waiting-promise.Learnt κs a r₂ e₂ → r₁ ≡ r₂
-first-waiting κs a r₁ r₂ e₁ e₂ p q = p ∙ sym q
+pub first_waiting : (κs : _) (a : _) (r₁ r₂ : _) (e₁ e₂ : _) → first-waiting-promise.Learnt κs a r₁ e₁ → first-waiting-promise.Learnt κs a r₂ e₂ → r₁ ≡ r₂
+first_waiting κs a r₁ r₂ e₁ e₂ p q = p ∙ sym q
 
-pub room-freed : (κs : _) (a : _) (r₁ r₂ : _) (e₁ e₂ : _) → room-freed-promise.Learnt κs a r₁ e₁ → room-freed-promise.Learnt κs a r₂ e₂ → r₁ ≡ r₂
-room-freed κs a r₁ r₂ e₁ e₂ p q = p ∙ sym q
+pub room_freed : (κs : _) (a : _) (r₁ r₂ : _) (e₁ e₂ : _) → room-freed-promise.Learnt κs a r₁ e₁ → room-freed-promise.Learnt κs a r₂ e₂ → r₁ ≡ r₂
+room_freed κs a r₁ r₂ e₁ e₂ p q = p ∙ sym q
 
 pub ask : (κs : _) (a : _) (r₁ r₂ : _) (e₁ e₂ : _) → ask-promise.Learnt κs a r₁ e₁ → ask-promise.Learnt κs a r₂ e₂ → (r₁ ≡ r₂) × (e₁.1.1.1.1.0.now ≡ e₂.1.1.1.1.0.now)
 ask κs a r₁ r₂ e₁ e₂ p q = determined _ r₁ r₂ _ _ p q
 
-pub ask-pdu : (κs : _) (a : _) (r₁ r₂ : _) (e₁ e₂ : _) → ask-pdu-promise.Learnt κs a r₁ e₁ → ask-pdu-promise.Learnt κs a r₂ e₂ → (r₁ ≡ r₂) × (e₁.1.1.1.1.0.now ≡ e₂.1.1.1.1.0.now)
-ask-pdu κs a r₁ r₂ e₁ e₂ p q = determined _ r₁ r₂ _ _ p q
+pub ask_pdu : (κs : _) (a : _) (r₁ r₂ : _) (e₁ e₂ : _) → ask-pdu-promise.Learnt κs a r₁ e₁ → ask-pdu-promise.Learnt κs a r₂ e₂ → (r₁ ≡ r₂) × (e₁.1.1.1.1.0.now ≡ e₂.1.1.1.1.0.now)
+ask_pdu κs a r₁ r₂ e₁ e₂ p q = determined _ r₁ r₂ _ _ p q
 
 pub decide : (κs : _) (a : _) (r₁ r₂ : _) (e₁ e₂ : _) → decide-promise.Learnt κs a r₁ e₁ → decide-promise.Learnt κs a r₂ e₂ → (r₁ ≡ r₂) × (e₁.1.1.1.0.now ≡ e₂.1.1.1.0.now)
 decide κs a r₁ r₂ e₁ e₂ p q = determined _ r₁ r₂ _ _ p q

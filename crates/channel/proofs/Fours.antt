@@ -19,27 +19,27 @@ four (a ∷ b ∷ c ∷ []) e = absurd (omega arith)
 four (a ∷ b ∷ c ∷ d ∷ []) e = refl
 four (a ∷ b ∷ c ∷ d ∷ x ∷ rooms) e = absurd (omega arith)
 
-pub some-four : (p : Room → Bool) (rooms : List Room) → length rooms ≡ 4
+pub some_four : (p : Room → Bool) (rooms : List Room) → length rooms ≡ 4
     → p (room_at rooms 0) || (p (room_at rooms 1) || (p (room_at rooms 2) || p (room_at rooms 3))) ≡ some? p rooms
-some-four p [] e = absurd (omega arith)
-some-four p (a ∷ []) e = absurd (omega arith)
-some-four p (a ∷ b ∷ []) e = absurd (omega arith)
-some-four p (a ∷ b ∷ c ∷ []) e = absurd (omega arith)
-some-four p (a ∷ b ∷ c ∷ d ∷ []) e = rw (or-false (p d))
-some-four p (a ∷ b ∷ c ∷ d ∷ x ∷ rooms) e = absurd (omega arith)
+some_four p [] e = absurd (omega arith)
+some_four p (a ∷ []) e = absurd (omega arith)
+some_four p (a ∷ b ∷ []) e = absurd (omega arith)
+some_four p (a ∷ b ∷ c ∷ []) e = absurd (omega arith)
+some_four p (a ∷ b ∷ c ∷ d ∷ []) e = rw (or-false (p d))
+some_four p (a ∷ b ∷ c ∷ d ∷ x ∷ rooms) e = absurd (omega arith)
 
-pub sound-four : (rooms : List Room) → length rooms ≡ 4
+pub sound_four : (rooms : List Room) → length rooms ≡ 4
     → (room_fits (room_at rooms 0) && (room_fits (room_at rooms 1) && (room_fits (room_at rooms 2) && room_fits (room_at rooms 3))))
     && ((apart_from (room_at rooms 0) (room_at rooms 1) && (apart_from (room_at rooms 0) (room_at rooms 2) && apart_from (room_at rooms 0) (room_at rooms 3)))
     && ((apart_from (room_at rooms 1) (room_at rooms 2) && apart_from (room_at rooms 1) (room_at rooms 3)) && apart_from (room_at rooms 2) (room_at rooms 3)))
     ≡ rooms_sound rooms
 unfolding rooms_sound
-sound-four [] e = absurd (omega arith)
-sound-four (a ∷ []) e = absurd (omega arith)
-sound-four (a ∷ b ∷ []) e = absurd (omega arith)
-sound-four (a ∷ b ∷ c ∷ []) e = absurd (omega arith)
-sound-four (a ∷ b ∷ c ∷ d ∷ []) e = simp and-true
-sound-four (a ∷ b ∷ c ∷ d ∷ x ∷ rooms) e = absurd (omega arith)
+sound_four [] e = absurd (omega arith)
+sound_four (a ∷ []) e = absurd (omega arith)
+sound_four (a ∷ b ∷ []) e = absurd (omega arith)
+sound_four (a ∷ b ∷ c ∷ []) e = absurd (omega arith)
+sound_four (a ∷ b ∷ c ∷ d ∷ []) e = simp and-true
+sound_four (a ∷ b ∷ c ∷ d ∷ x ∷ rooms) e = absurd (omega arith)
 
 -- the first room of which p holds
 module _ (p : Room → Bool) (rooms : List Room) (e : length rooms ≡ 4) where

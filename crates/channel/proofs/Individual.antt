@@ -24,12 +24,12 @@ use Rattle.channel.specs.Questions.{Outcome, carried, accept, reject, asked_of, 
 use Rattle.channel.specs.Runs.{Turn, question, decision, end, lent_by, outcome, next, run, written_by, answers_in, verdicts, verdicts_in, Handed, AllHanded}
 use Rattle.channel.specs.Demands as claims
 use Rattle.channel.specs.Demands.{Waiting, is_question}
-use Rattle.channel.proofs.Asking.{ask-replied, end-rejects}
-use Rattle.channel.proofs.Counting.{none-count, mono, Sound, sound-is}
-use Rattle.channel.proofs.Turns.{Wrote, room_for, Went, stays, answers, waits, went, seven, end-size}
+use Rattle.channel.proofs.Asking.{ask_replied, end_rejects}
+use Rattle.channel.proofs.Counting.{none_count, mono, Sound, sound_is}
+use Rattle.channel.proofs.Turns.{Wrote, room_for, Went, stays, answers, waits, went, seven, end_size}
 use Rattle.channel.proofs.Reading.{small, given, one_answer, times}
-use Rattle.channel.proofs.Kept.{next-stays, always, always_small}
-use Rattle.channel.proofs.Once.{asked-verdict, one_verdict, end-verdicts}
+use Rattle.channel.proofs.Kept.{next_stays, always, always_small}
+use Rattle.channel.proofs.Once.{asked_verdict, one_verdict, end_verdicts}
 use Rattle.channel.proofs.Waiting.{other_number, then}
 
 -- what is taken with a verdict at once has written it
@@ -42,14 +42,14 @@ wrote_now rooms n c a v b e zero (waits u f none free le wr) = absurd (let z : �
 pub at_once : claims.AtOnce
 at_once ts n c a v b h e zero =
     let rooms = run fresh_rooms ts in
-    let wr = wrote_now rooms n c a v b e zero (went rooms (sound-is rooms (always ts)) (question n c a b)) in
-    (one_verdict n n v h (asked-verdict a v e) wr ∙ ap (λ (b : Bool). cond b (v ∷ []) []) (eq-eqb n n refl), next-stays rooms (question n c a b) _ wr.is)
+    let wr = wrote_now rooms n c a v b e zero (went rooms (sound_is rooms (always ts)) (question n c a b)) in
+    (one_verdict n n v h (asked_verdict a v e) wr ∙ ap (λ (b : Bool). cond b (v ∷ []) []) (eq-eqb n n refl), next_stays rooms (question n c a b) _ wr.is)
 
 -- individually addressed
 
-individual-asked : (k : ℕ) → asked_of (asked_by k) ≡ Asked.Is (Reply.Now (cond (eqb k 0) accept reject))
+individual_asked : (k : ℕ) → asked_of (asked_by k) ≡ Asked.Is (Reply.Now (cond (eqb k 0) accept reject))
 unfolding asked_of
-individual-asked k = by (eqb k 0)
+individual_asked k = by (eqb k 0)
   where
     by : (b : Bool) → asked_of (cond b 0 1) ≡ Asked.Is (Reply.Now (cond b accept reject))
     by true = refl
@@ -61,36 +61,36 @@ individual ts n c b call pdu lent left s h promise zero =
     let rooms = run fresh_rooms ts in
     let k = step.answer_number s.answer in
     let same : k ≡ (step.step_of call pdu lent).answer = ap (λ (o : step.Outcome). o.answer) promise in
-    let wr = wrote_now rooms n c (asked_by k) (cond (eqb k 0) accept reject) b (individual-asked k) zero (went rooms (sound-is rooms (always ts)) (question n c (asked_by k) b)) in
-    let v = asked-verdict (asked_by k) (cond (eqb k 0) accept reject) (individual-asked k) in (
+    let wr = wrote_now rooms n c (asked_by k) (cond (eqb k 0) accept reject) b (individual_asked k) zero (went rooms (sound_is rooms (always ts)) (question n c (asked_by k) b)) in
+    let v = asked_verdict (asked_by k) (cond (eqb k 0) accept reject) (individual_asked k) in (
       rw (wr.is, stored (bytes_of (Message.ChannelAnswer n (cond (eqb k 0) accept reject) ∷ [])) b wr.fits, ← same) (one_answer n (cond (eqb k 0) accept reject) h (omega (arith, v))),
       ap (λ (o : Outcome). o.rooms) wr.is,
     )
 
 -- messages that fit are written
-fits-written : (rooms after : List Room) (ms : List Message) (t : Turn) → outcome rooms t ≡ carried rooms after ms (lent_by t) → length (bytes_of ms) ≤ length (lent_by t) → Wrote rooms t after ms
+fits_written : (rooms after : List Room) (ms : List Message) (t : Turn) → outcome rooms t ≡ carried rooms after ms (lent_by t) → length (bytes_of ms) ≤ length (lent_by t) → Wrote rooms t after ms
 unfolding carried
-fits-written rooms after ms t e le = record { fits = le; is = rw (le-leb (length (bytes_of ms)) (length (lent_by t)) le) at e }
+fits_written rooms after ms t e le = record { fits = le; is = rw (le-leb (length (bytes_of ms)) (length (lent_by t)) le) at e }
 
-now-written : (rooms : List Room) (s : Sound rooms) (n c a v : ℕ) (b : List ℕ) → asked_of a ≡ Asked.Is (Reply.Now v) → c ≤ 16383 → some? (has_number n) rooms ≡ false → 7 ≤ length b
+now_written : (rooms : List Room) (s : Sound rooms) (n c a v : ℕ) (b : List ℕ) → asked_of a ≡ Asked.Is (Reply.Now v) → c ≤ 16383 → some? (has_number n) rooms ≡ false → 7 ≤ length b
     → Wrote rooms (question n c a b) rooms (Message.ChannelAnswer n v ∷ [])
 unfolding outcome
-now-written rooms s n c a v b e le none room =
-    fits-written rooms rooms (Message.ChannelAnswer n v ∷ []) (question n c a b)
-    (sym (ask-replied rooms n c a b (sound-is rooms s) le (Reply.Now v) _ (sym e) none refl)) (let z = seven n v in omega (arith, z))
+now_written rooms s n c a v b e le none room =
+    fits_written rooms rooms (Message.ChannelAnswer n v ∷ []) (question n c a b)
+    (sym (ask_replied rooms n c a b (sound_is rooms s) le (Reply.Now v) _ (sym e) none refl)) (let z = seven n v in omega (arith, z))
 
-pub individual-taken : claims.IndividualTaken
+pub individual_taken : claims.IndividualTaken
 unfolding pdu_of outcome
-individual-taken ts n c k b le none room =
-    ap (λ (o : Outcome). o.answer) (now-written (run fresh_rooms ts) (always ts) n c (asked_by k) (cond (eqb k 0) accept reject) b (individual-asked k) le none room).is
+individual_taken ts n c k b le none room =
+    ap (λ (o : Outcome). o.answer) (now_written (run fresh_rooms ts) (always ts) n c (asked_by k) (cond (eqb k 0) accept reject) b (individual_asked k) le none room).is
 
 -- a free room serves
 free_written : (rooms : List Room) (s : Sound rooms) (n c a : ℕ) (w : Wait) (b : List ℕ) → asked_of a ≡ Asked.Is (Reply.Waits w) → c ≤ 16383 → some? (has_number n) rooms ≡ false
     → some? is_free rooms ≡ true → length (bytes_of (first_out w)) ≤ length b → Wrote rooms (question n c a b) (in_first is_free (room_for w n c) rooms) (first_out w)
 unfolding outcome taken
 free_written rooms s n c a w b e le none free room =
-    fits-written rooms (in_first is_free (room_for w n c) rooms) (first_out w) (question n c a b)
-    (sym (ask-replied rooms n c a b (sound-is rooms s) le (Reply.Waits w) _ (sym e) none (rw free))) room
+    fits_written rooms (in_first is_free (room_for w n c) rooms) (first_out w) (question n c a b)
+    (sym (ask_replied rooms n c a b (sound_is rooms s) le (Reply.Waits w) _ (sym e) none (rw free))) room
 
 four_at_most : (w : Wait) → length (bytes_of (first_out w)) ≤ 4
 unfolding bytes_of message_size flat_size
@@ -108,39 +108,39 @@ module _ (rooms : List Room) (s : Sound rooms) (h : every? small rooms ≡ true)
     (none : some? (has_number n) rooms ≡ false) (room : 7 ≤ length b) (more : 28 ≤ length d) (two : n < 65536) where
   on_it : Wrote rooms (question n c 0 b) rooms (Message.ChannelAnswer n accept ∷ [])
   unfolding asked_of
-  on_it = now-written rooms s n c 0 accept b refl le none room
+  on_it = now_written rooms s n c 0 accept b refl le none room
 
   end_of_it : Wrote rooms (end c d) (all_freed c rooms) (rejects_in c rooms)
   unfolding outcome
   end_of_it =
-      fits-written rooms (all_freed c rooms) (rejects_in c rooms) (end c d) (sym (end-rejects rooms c d (sound-is rooms s) _ le refl))
-      (let z = end-size c rooms s.four in omega (arith, z))
+      fits_written rooms (all_freed c rooms) (rejects_in c rooms) (end c d) (sym (end_rejects rooms c d (sound_is rooms s) _ le refl))
+      (let z = end_size c rooms s.four in omega (arith, z))
 
   both_turns : (m : ℕ) → verdicts_in m rooms (question n c 0 b ∷ end c d ∷ []) ≡ verdicts m rooms (question n c 0 b) ++ (verdicts m rooms (end c d) ++ [])
   unfolding verdicts_in
-  both_turns m = rw (next-stays rooms (question n c 0 b) _ on_it.is)
+  both_turns m = rw (next_stays rooms (question n c 0 b) _ on_it.is)
 
-  first-verdict : (m : ℕ) → verdicts m rooms (question n c 0 b) ≡ cond (eqb n m) (accept ∷ []) []
-  first-verdict m = one_verdict m n accept two (omega arith) on_it
+  first_verdict : (m : ℕ) → verdicts m rooms (question n c 0 b) ≡ cond (eqb n m) (accept ∷ []) []
+  first_verdict m = one_verdict m n accept two (omega arith) on_it
 
   it_accepted : verdicts_in n rooms (question n c 0 b ∷ end c d ∷ []) ≡ accept ∷ []
   it_accepted =
-      let z = none-count (has_number n) rooms none in
+      let z = none_count (has_number n) rooms none in
       let y = mono (λ r. has_number n r && of_call c r) (has_number n) (λ r q. facts.left (has_number n r) _ q) rooms in
       let gone : count (λ r. has_number n r && of_call c r) rooms ≡ 0 = omega (arith, z, y) in
-      let silent : verdicts n rooms (end c d) ≡ [] = end-verdicts n c h end_of_it ∙ ap times gone in
-      let once : verdicts n rooms (question n c 0 b) ≡ accept ∷ [] = first-verdict n ∙ ap (λ (k : Bool). cond k (accept ∷ []) []) (eq-eqb n n refl) in
+      let silent : verdicts n rooms (end c d) ≡ [] = end_verdicts n c h end_of_it ∙ ap times gone in
+      let once : verdicts n rooms (question n c 0 b) ≡ accept ∷ [] = first_verdict n ∙ ap (λ (k : Bool). cond k (accept ∷ []) []) (eq-eqb n n refl) in
       both_turns n ∙ rw (once, silent)
 
   others_rejected : (m : ℕ) (w : Wait) → Waiting m c w rooms → verdicts_in m rooms (question n c 0 b ∷ end c d ∷ []) ≡ reject ∷ []
   others_rejected m w is =
-      let other : verdicts m rooms (question n c 0 b) ≡ [] = first-verdict m ∙ ap (λ (k : Bool). cond k (accept ∷ []) []) (other_number m c n w rooms none is) in
+      let other : verdicts m rooms (question n c 0 b) ≡ [] = first_verdict m ∙ ap (λ (k : Bool). cond k (accept ∷ []) []) (other_number m c n w rooms none is) in
       let zero : (outcome rooms (end c d)).answer ≡ 0 = ap (λ (o : Outcome). o.answer) end_of_it.is in
       let now : verdicts m rooms (end c d) ≡ reject ∷ [] =
       (then rooms s h m c w is (end c d) tt (eq-eqb c c refl) (λ q. let y : ◌≡◌ {A = ℕ} 0 7 = sym zero ∙ q in absurd (omega (arith, y)))).0 in
       both_turns m ∙ rw (other, now)
 
-pub ending-pdu : claims.EndingPdu
-ending-pdu ts n c b d g two le none room more =
+pub ending_pdu : claims.EndingPdu
+ending_pdu ts n c b d g two le none room more =
     let rooms = run fresh_rooms ts in
     (it_accepted rooms (always ts) (always_small ts g) n c b d le none room more two, others_rejected rooms (always ts) (always_small ts g) n c b d le none room more two)

@@ -17,10 +17,10 @@ use Rattle.channel.specs.Rooms.{fresh_rooms, is_free, has_number, of_call, every
 use Rattle.channel.specs.Questions.{Outcome, asked_of, decision_of, first_out, rejects_in}
 use Rattle.channel.specs.Runs.{Turn, question, decision, end, outcome, next, run, Given, answers_in, verdicts_on, verdicts, verdicts_in, asks, asked, Handed, AllHanded}
 use Rattle.channel.specs.Demands.{Once}
-use Rattle.channel.proofs.Counting.{count-freed, Sound, sound-is}
+use Rattle.channel.proofs.Counting.{count_freed, Sound, sound_is}
 use Rattle.channel.proofs.Turns.{Wrote, Went, stays, answers, waits, decides, ends, went}
-use Rattle.channel.proofs.Reading.{one_answer, no_answer, rejected, times, length-times, rejects-on, small, verdicts_wrote, verdicts-stays}
-use Rattle.channel.proofs.Kept.{somebody, count-taken, count-answered, no_number, next-stays, next-sound, next_small, fresh-sound}
+use Rattle.channel.proofs.Reading.{one_answer, no_answer, rejected, times, length-times, rejects_on, small, verdicts_wrote, verdicts_stays}
+use Rattle.channel.proofs.Kept.{somebody, count_taken, count_answered, no_number, next_stays, next_sound, next_small, fresh_sound}
 
 -- a verdict is 0, 1 or 2
 
@@ -43,25 +43,25 @@ at_once false false false false false false true h v q = let z : 2 ≡ v = cc in
 at_once false false false false false false false true v q = let z : 1 ≡ v = cc in omega (arith, z)
 at_once false false false false false false false false v q = absurd (let z : ◌≡◌ {A = ℕ} 0 1 = cc in omega arith)
 
-pub asked-verdict : (a v : ℕ) → asked_of a ≡ Asked.Is (Reply.Now v) → v < 3
+pub asked_verdict : (a v : ℕ) → asked_of a ≡ Asked.Is (Reply.Now v) → v < 3
 unfolding asked_of
-asked-verdict a v e = at_once (eqb a 0) (eqb a 1) (eqb a 2) (eqb a 3) (eqb a 4) (eqb a 5) (eqb a 6) (eqb a 7) v e
+asked_verdict a v e = at_once (eqb a 0) (eqb a 1) (eqb a 2) (eqb a 3) (eqb a 4) (eqb a 5) (eqb a 6) (eqb a 7) v e
 
-given-then : (a b c d e : Bool) (w : Wait) (v : ℕ) →
+given_then : (a b c d e : Bool) (w : Wait) (v : ℕ) →
     cond a (Decision.Gives Wait.User 0)
     (cond b (Decision.Gives Wait.User 1)
     (cond c (Decision.Gives Wait.User 1) (cond d (Decision.Gives Wait.Cancel 0) (cond e (Decision.Gives Wait.Cancel 2) Decision.Unknown))))
     ≡ Decision.Gives w v → v < 3
-given-then true b c d e w v q = let z : 0 ≡ v = cc in omega (arith, z)
-given-then false true c d e w v q = let z : 1 ≡ v = cc in omega (arith, z)
-given-then false false true d e w v q = let z : 1 ≡ v = cc in omega (arith, z)
-given-then false false false true e w v q = let z : 0 ≡ v = cc in omega (arith, z)
-given-then false false false false true w v q = let z : 2 ≡ v = cc in omega (arith, z)
-given-then false false false false false w v q = absurd (let z : ◌≡◌ {A = ℕ} 0 1 = cc in omega arith)
+given_then true b c d e w v q = let z : 0 ≡ v = cc in omega (arith, z)
+given_then false true c d e w v q = let z : 1 ≡ v = cc in omega (arith, z)
+given_then false false true d e w v q = let z : 1 ≡ v = cc in omega (arith, z)
+given_then false false false true e w v q = let z : 0 ≡ v = cc in omega (arith, z)
+given_then false false false false true w v q = let z : 2 ≡ v = cc in omega (arith, z)
+given_then false false false false false w v q = absurd (let z : ◌≡◌ {A = ℕ} 0 1 = cc in omega arith)
 
-pub decided-verdict : (d : ℕ) (w : Wait) (v : ℕ) → decision_of d ≡ Decision.Gives w v → v < 3
+pub decided_verdict : (d : ℕ) (w : Wait) (v : ℕ) → decision_of d ≡ Decision.Gives w v → v < 3
 unfolding decision_of
-decided-verdict d w v e = given-then (eqb d 0) (eqb d 1) (eqb d 2) (eqb d 3) (eqb d 4) w v e
+decided_verdict d w v e = given_then (eqb d 0) (eqb d 1) (eqb d 2) (eqb d 3) (eqb d 4) w v e
 
 -- the verdicts of a turn that wrote one answer, none, or those of an end
 
@@ -73,9 +73,9 @@ one_verdict n m v h g w =
 pub no_verdict : (n : ℕ) (u : Wait) → {rooms after : List Room} {t : Turn} → Wrote rooms t after (first_out u) → verdicts n rooms t ≡ []
 no_verdict n u w = verdicts_wrote n w ∙ ap (λ (gs : List Given). verdicts_on n gs) (no_answer u)
 
-pub end-verdicts : (n c : ℕ) {rooms after : List Room} {t : Turn} → every? small rooms ≡ true → Wrote rooms t after (rejects_in c rooms)
+pub end_verdicts : (n c : ℕ) {rooms after : List Room} {t : Turn} → every? small rooms ≡ true → Wrote rooms t after (rejects_in c rooms)
     → verdicts n rooms t ≡ times (count (λ r. has_number n r && of_call c r) rooms)
-end-verdicts n c {rooms} h w = verdicts_wrote n w ∙ ap (λ (gs : List Given). verdicts_on n gs) (rejected c rooms h) ∙ rejects-on n c rooms
+end_verdicts n c {rooms} h w = verdicts_wrote n w ∙ ap (λ (gs : List Given). verdicts_on n gs) (rejected c rooms h) ∙ rejects_on n c rooms
 
 -- one turn
 module _ (rooms : List Room) (s : Sound rooms) (h : every? small rooms ≡ true) (n : ℕ) where
@@ -99,19 +99,19 @@ module _ (rooms : List Room) (s : Sound rooms) (h : every? small rooms ≡ true)
   decided_balance false v k e = omega arith
 
   by_went : (t : Turn) → Handed t → Went rooms t → Balance t
-  by_went t g (stays k not short e) = rw (next-stays rooms t _ e, verdicts-stays rooms t n k e, e, ne_eqb k 0 not) (refused_balance (asks n t))
+  by_went t g (stays k not short e) = rw (next_stays rooms t _ e, verdicts_stays rooms t n k e, e, ne_eqb k 0 not) (refused_balance (asks n t))
   by_went (question m c a b) g (answers v e none w) =
-      rw (next-stays rooms (question m c a b) _ w.is, one_verdict n m v g (asked-verdict a v e) w, w.is) (answered_balance (eqb m n) v)
+      rw (next_stays rooms (question m c a b) _ w.is, one_verdict n m v g (asked_verdict a v e) w, w.is) (answered_balance (eqb m n) v)
   by_went (question m c a b) g (waits u e none f le w) =
-      rw (next-stays rooms (question m c a b) _ w.is, no_verdict n u w, w.is, count-taken u m c n rooms (somebody a u e) f) (waiting_balance (eqb m n))
+      rw (next_stays rooms (question m c a b) _ w.is, no_verdict n u w, w.is, count_taken u m c n rooms (somebody a u e) f) (waiting_balance (eqb m n))
   by_went (decision m d b) g (decides u v e f w) =
-      rw (next-stays rooms (decision m d b) _ w.is, one_verdict n m v g (decided-verdict d u v e) w) (decided_balance (eqb m n) v _ (count-answered u m n rooms f))
+      rw (next_stays rooms (decision m d b) _ w.is, one_verdict n m v g (decided_verdict d u v e) w) (decided_balance (eqb m n) v _ (count_answered u m n rooms f))
   by_went (end c b) g (ends le w) =
-      rw (next-stays rooms (end c b) _ w.is, end-verdicts n c h w, length-times)
-      (let z = count-freed (has_number n) c (no_number n) rooms in omega (arith, z))
+      rw (next_stays rooms (end c b) _ w.is, end_verdicts n c h w, length-times)
+      (let z = count_freed (has_number n) c (no_number n) rooms in omega (arith, z))
 
   balance : (t : Turn) → Handed t → Balance t
-  balance t g = by_went t g (went rooms (sound-is rooms s) t)
+  balance t g = by_went t g (went rooms (sound_is rooms s) t)
 
 -- some turns
 balanced : (rooms : List Room) (ts : List Turn) (n : ℕ) → Sound rooms → every? small rooms ≡ true → AllHanded ts
@@ -120,12 +120,12 @@ unfolding asked verdicts_in run
 balanced rooms [] n s h g = omega arith
 balanced rooms (t ∷ ts) n s h g =
     let one = balance rooms s h n t g.0 in
-    let rest = balanced (next rooms t) ts n (next-sound rooms s t) (next_small rooms s h t g.0) g.1 in
+    let rest = balanced (next rooms t) ts n (next_sound rooms s t) (next_small rooms s h t g.0) g.1 in
     rw length-append (omega (arith, one, rest))
 
-fresh-none : (n : ℕ) → count (has_number n) fresh_rooms ≡ 0
+fresh_none : (n : ℕ) → count (has_number n) fresh_rooms ≡ 0
 unfolding has_number is_free
-fresh-none n = refl
+fresh_none n = refl
 
 pub once : Once
-once ts n g = let z = balanced fresh_rooms ts n fresh-sound refl g in let y = fresh-none n in omega (arith, z, y)
+once ts n g = let z = balanced fresh_rooms ts n fresh_sound refl g in let y = fresh_none n in omega (arith, z, y)

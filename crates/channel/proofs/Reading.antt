@@ -19,8 +19,8 @@ use Rattle.channel.specs.declared.rooms.Room.{Room}
 use Rattle.channel.specs.Rooms.{has_number, of_call, every?, count}
 use Rattle.channel.specs.Questions.{refusal, reject, first_out, rejects, rejects_in}
 use Rattle.channel.specs.Runs.{Turn, lent_by, outcome, written_by, Given, answer_at, answers_within, answers_in, verdicts_on, verdicts}
-use Rattle.channel.proofs.Counting.{has_own, call-held}
-use Rattle.channel.proofs.Turns.{Wrote, size-rejects_in}
+use Rattle.channel.proofs.Counting.{has_own, call_held}
+use Rattle.channel.proofs.Turns.{Wrote, size_rejects_in}
 
 abbrev pub given : ℕ → ℕ → Given
 given n v = record { number = n; verdict = v }
@@ -79,7 +79,7 @@ rejected_within c (r ∷ rs) k h le = by (of_call c r) k le (λ j. rejected_with
 
 pub rejected : (c : ℕ) (rooms : List Room) → every? small rooms ≡ true → answers_in (bytes_of (rejects_in c rooms)) ≡ rejected_in c rooms
 unfolding answers_in
-rejected c rooms h = rejected_within c rooms (length (bytes_of (rejects_in c rooms))) h (let z = size-rejects_in c rooms in omega arith)
+rejected c rooms h = rejected_within c rooms (length (bytes_of (rejects_in c rooms))) h (let z = size_rejects_in c rooms in omega arith)
 
 -- so many rejects
 abbrev pub times : ℕ → List ℕ
@@ -90,9 +90,9 @@ pub length-times : (k : ℕ) → length (times k) ≡ k
 length-times zero = refl
 length-times (suc k) = let z = length-times k in omega arith
 
-pub rejects-on : (n c : ℕ) (rooms : List Room) → verdicts_on n (rejected_in c rooms) ≡ times (count (λ r. has_number n r && of_call c r) rooms)
-rejects-on n c [] = refl
-rejects-on n c (r ∷ rs) = by (of_call c r) (has_number n r) (λ e. has_own n r (call-held c r e)) (rejects-on n c rs)
+pub rejects_on : (n c : ℕ) (rooms : List Room) → verdicts_on n (rejected_in c rooms) ≡ times (count (λ r. has_number n r && of_call c r) rooms)
+rejects_on n c [] = refl
+rejects_on n c (r ∷ rs) = by (of_call c r) (has_number n r) (λ e. has_own n r (call_held c r e)) (rejects_on n c rs)
   where
     both : (h e : Bool) → h ≡ e → verdicts_on n (rejected_in c rs) ≡ times (count (λ s. has_number n s && of_call c s) rs)
         → cond e (reject ∷ []) [] ++ verdicts_on n (rejected_in c rs) ≡ times (cond (h && true) 1 0 + count (λ s. has_number n s && of_call c s) rs)
@@ -117,6 +117,6 @@ pub verdicts_wrote : {rooms after : List Room} {t : Turn} {ms : List Message} �
 unfolding verdicts written_by
 verdicts_wrote {rooms} {after} {t} {ms} n w = rw (w.is, stored (bytes_of ms) (lent_by t) w.fits)
 
-pub verdicts-stays : (rooms : List Room) (t : Turn) (n k : ℕ) → outcome rooms t ≡ refusal k rooms (lent_by t) → verdicts n rooms t ≡ []
+pub verdicts_stays : (rooms : List Room) (t : Turn) (n k : ℕ) → outcome rooms t ≡ refusal k rooms (lent_by t) → verdicts n rooms t ≡ []
 unfolding verdicts written_by
-verdicts-stays rooms t n k e = rw (e, nothing)
+verdicts_stays rooms t n k e = rw (e, nothing)

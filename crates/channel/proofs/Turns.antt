@@ -23,8 +23,8 @@ use Rattle.channel.specs.Rooms.{free_room, is_free, has_number, waits_for, of_ca
 use Rattle.channel.specs.Questions.{refusal, carried, asked_of, decision_of, first_out, taken, decide_of, rejects, rejects_in, reject_size}
 use Rattle.channel.specs.Runs.{Turn, question, decision, end, lent_by, outcome}
 use Rattle.channel.specs.Demands.{room}
-use Rattle.channel.proofs.Counting.{count-length, sound_of}
-use Rattle.channel.proofs.Asking.{size-rejects, ask-call, ask_unknown, ask-waits, ask-replied, decide_unknown, end-call, end-rejects}
+use Rattle.channel.proofs.Counting.{count_length, sound_of}
+use Rattle.channel.proofs.Asking.{size_rejects, ask_call, ask_unknown, ask_waits, ask_replied, decide_unknown, end_call, end_rejects}
 
 -- taken: the rooms then, and the messages that went out
 pub record Wrote (rooms : List Room) (t : Turn) (after : List Room) (ms : List Message) : Type 0 where
@@ -47,27 +47,27 @@ pub seven : (n v : ℕ) → length (bytes_of (Message.ChannelAnswer n v ∷ []))
 unfolding message_size flat_size
 seven n v = size_one (Message.ChannelAnswer n v)
 
-answer-size : (n v : ℕ) → length (bytes_of (Message.ChannelAnswer n v ∷ [])) ≤ 7
-answer-size n v = let z = seven n v in omega (arith, z)
+answer_size : (n v : ℕ) → length (bytes_of (Message.ChannelAnswer n v ∷ [])) ≤ 7
+answer_size n v = let z = seven n v in omega (arith, z)
 
-pub first-size : (w : Wait) → length (bytes_of (first_out w)) ≤ 7
+pub first_size : (w : Wait) → length (bytes_of (first_out w)) ≤ 7
 unfolding bytes_of message_size flat_size
-first-size Wait.Nobody = omega arith
-first-size Wait.User = omega arith
-first-size Wait.Cancel = let z : length (bytes_of (Message.Cancel ∷ [])) ≡ 4 = size_one Message.Cancel in omega (arith, z)
+first_size Wait.Nobody = omega arith
+first_size Wait.User = omega arith
+first_size Wait.Cancel = let z : length (bytes_of (Message.Cancel ∷ [])) ≡ 4 = size_one Message.Cancel in omega (arith, z)
 
-pub size-rejects_in : (c : ℕ) (rooms : List Room) → length (bytes_of (rejects_in c rooms)) ≡ 7 * count (of_call c) rooms
+pub size_rejects_in : (c : ℕ) (rooms : List Room) → length (bytes_of (rejects_in c rooms)) ≡ 7 * count (of_call c) rooms
 unfolding bytes_of reject_size
-size-rejects_in c [] = refl
-size-rejects_in c (r ∷ rs) = by (of_call c r) (size-append (rejects c r) (rejects_in c rs)) (size-rejects c r) (size-rejects_in c rs)
+size_rejects_in c [] = refl
+size_rejects_in c (r ∷ rs) = by (of_call c r) (size-append (rejects c r) (rejects_in c rs)) (size_rejects c r) (size_rejects_in c rs)
   where
     by : (o : Bool) → length (bytes_of (rejects c r ++ rejects_in c rs)) ≡ length (bytes_of (rejects c r)) + length (bytes_of (rejects_in c rs)) → cond o 7 0 ≡ length (bytes_of (rejects c r))
         → length (bytes_of (rejects_in c rs)) ≡ 7 * count (of_call c) rs → length (bytes_of (rejects c r ++ rejects_in c rs)) ≡ 7 * (cond o 1 0 + count (of_call c) rs)
     by true e f again = omega arith
     by false e f again = omega arith
 
-pub end-size : (c : ℕ) (rooms : List Room) → length rooms ≡ 4 → length (bytes_of (rejects_in c rooms)) ≤ 28
-end-size c rooms e = let z = size-rejects_in c rooms in let y = count-length (of_call c) rooms in omega (arith, z, y)
+pub end_size : (c : ℕ) (rooms : List Room) → length rooms ≡ 4 → length (bytes_of (rejects_in c rooms)) ≤ 28
+end_size c rooms e = let z = size_rejects_in c rooms in let y = count_length (of_call c) rooms in omega (arith, z, y)
 
 -- messages that fit, or 7
 wrote_or : (rooms after : List Room) (ms : List Message) (t : Turn) → length (bytes_of ms) ≤ room t → outcome rooms t ≡ carried rooms after ms (lent_by t) → (Wrote rooms t after ms → Went rooms t) → Went rooms t
@@ -81,47 +81,47 @@ wrote_or rooms after ms t most e k = by (leb (length (bytes_of ms)) (length (len
 
 module _ (rooms : List Room) (s : rooms_sound rooms ≡ true) where
   module _ (n c a : ℕ) (b : List ℕ) where
-    by-room : (w : Wait) → asked_of a ≡ Asked.Is (Reply.Waits w) → some? (has_number n) rooms ≡ false → c ≤ 16383 → outcome rooms (question n c a b) ≡ taken rooms n c w b
+    by_room : (w : Wait) → asked_of a ≡ Asked.Is (Reply.Waits w) → some? (has_number n) rooms ≡ false → c ≤ 16383 → outcome rooms (question n c a b) ≡ taken rooms n c w b
         → (f : Bool) → some? is_free rooms ≡ f → Went rooms (question n c a b)
     unfolding taken
-    by-room w e none le is true f = wrote_or rooms (in_first is_free (room_for w n c) rooms) (first_out w) (question n c a b) (first-size w) (rw f at is) (waits w e none f le)
-    by-room w e none le is false f = stays 51 (λ z. absurd (omega arith)) (λ z. absurd (omega arith)) (rw f at is)
+    by_room w e none le is true f = wrote_or rooms (in_first is_free (room_for w n c) rooms) (first_out w) (question n c a b) (first_size w) (rw f at is) (waits w e none f le)
+    by_room w e none le is false f = stays 51 (λ z. absurd (omega arith)) (λ z. absurd (omega arith)) (rw f at is)
 
     by_reply : (reply : Reply) → asked_of a ≡ Asked.Is reply → c ≤ 16383 → (k : Bool) → some? (has_number n) rooms ≡ k → Went rooms (question n c a b)
     unfolding outcome
-    by_reply reply e le true w = stays 50 (λ z. absurd (omega arith)) (λ z. absurd (omega arith)) (sym (ask-waits rooms n c a b s le reply (sym e) w))
+    by_reply reply e le true w = stays 50 (λ z. absurd (omega arith)) (λ z. absurd (omega arith)) (sym (ask_waits rooms n c a b s le reply (sym e) w))
     by_reply (Reply.Now v) e le false w =
-        wrote_or rooms rooms (Message.ChannelAnswer n v ∷ []) (question n c a b) (answer-size n v) (sym (ask-replied rooms n c a b s le (Reply.Now v) _ (sym e) w refl)) (answers v e w)
+        wrote_or rooms rooms (Message.ChannelAnswer n v ∷ []) (question n c a b) (answer_size n v) (sym (ask_replied rooms n c a b s le (Reply.Now v) _ (sym e) w refl)) (answers v e w)
     by_reply (Reply.Waits u) e le false w =
-        by-room u e w le (sym (ask-replied rooms n c a b s le (Reply.Waits u) _ (sym e) w refl)) (some? is_free rooms) refl
-    by_reply Reply.Open e le false w = stays 53 (λ z. absurd (omega arith)) (λ z. absurd (omega arith)) (sym (ask-replied rooms n c a b s le Reply.Open _ (sym e) w refl))
+        by_room u e w le (sym (ask_replied rooms n c a b s le (Reply.Waits u) _ (sym e) w refl)) (some? is_free rooms) refl
+    by_reply Reply.Open e le false w = stays 53 (λ z. absurd (omega arith)) (λ z. absurd (omega arith)) (sym (ask_replied rooms n c a b s le Reply.Open _ (sym e) w refl))
 
-    by-asked : (q : Asked) → asked_of a ≡ q → c ≤ 16383 → Went rooms (question n c a b)
+    by_asked : (q : Asked) → asked_of a ≡ q → c ≤ 16383 → Went rooms (question n c a b)
     unfolding outcome
-    by-asked (Asked.Is reply) e le = by_reply reply e le (some? (has_number n) rooms) refl
-    by-asked Asked.Unknown e le = stays 4 (λ z. absurd (omega arith)) (λ z. absurd (omega arith)) (sym (ask_unknown rooms n c a b s le (sym e)))
+    by_asked (Asked.Is reply) e le = by_reply reply e le (some? (has_number n) rooms) refl
+    by_asked Asked.Unknown e le = stays 4 (λ z. absurd (omega arith)) (λ z. absurd (omega arith)) (sym (ask_unknown rooms n c a b s le (sym e)))
 
     by_call : (k : Bool) → leb c 16383 ≡ k → Went rooms (question n c a b)
     unfolding outcome
-    by_call true e = by-asked (asked_of a) refl (leb-true _ _ e)
-    by_call false e = stays 4 (λ z. absurd (omega arith)) (λ z. absurd (omega arith)) (sym (ask-call rooms n c a b s (leb-false _ _ e)))
+    by_call true e = by_asked (asked_of a) refl (leb-true _ _ e)
+    by_call false e = stays 4 (λ z. absurd (omega arith)) (λ z. absurd (omega arith)) (sym (ask_call rooms n c a b s (leb-false _ _ e)))
 
   module _ (n d : ℕ) (b : List ℕ) where
-    by-waiting : (w : Wait) (v : ℕ) → decision_of d ≡ Decision.Gives w v → (k : Bool) → some? (waits_for n w) rooms ≡ k → Went rooms (decision n d b)
+    by_waiting : (w : Wait) (v : ℕ) → decision_of d ≡ Decision.Gives w v → (k : Bool) → some? (waits_for n w) rooms ≡ k → Went rooms (decision n d b)
     unfolding outcome decide_of
-    by-waiting w v e true f =
-        wrote_or rooms (in_first (waits_for n w) free_room rooms) (Message.ChannelAnswer n v ∷ []) (decision n d b) (answer-size n v) (rw (s, e, f)) (decides w v e f)
-    by-waiting w v e false f = stays {t = decision n d b} 52 (λ z. absurd (omega arith)) (λ z. absurd (omega arith)) (rw (s, e, f))
+    by_waiting w v e true f =
+        wrote_or rooms (in_first (waits_for n w) free_room rooms) (Message.ChannelAnswer n v ∷ []) (decision n d b) (answer_size n v) (rw (s, e, f)) (decides w v e f)
+    by_waiting w v e false f = stays {t = decision n d b} 52 (λ z. absurd (omega arith)) (λ z. absurd (omega arith)) (rw (s, e, f))
 
     by_decision : (q : Decision) → decision_of d ≡ q → Went rooms (decision n d b)
     unfolding outcome
-    by_decision (Decision.Gives w v) e = by-waiting w v e (some? (waits_for n w) rooms) refl
+    by_decision (Decision.Gives w v) e = by_waiting w v e (some? (waits_for n w) rooms) refl
     by_decision Decision.Unknown e = stays 4 (λ z. absurd (omega arith)) (λ z. absurd (omega arith)) (sym (decide_unknown rooms n d b s (sym e)))
 
   by_end : (c : ℕ) (b : List ℕ) (k : Bool) → leb c 16383 ≡ k → Went rooms (end c b)
   unfolding outcome
-  by_end c b true e = wrote_or rooms (all_freed c rooms) (rejects_in c rooms) (end c b) (end-size c rooms (sound_of rooms s).four) (sym (end-rejects rooms c b s _ (leb-true _ _ e) refl)) (ends (leb-true _ _ e))
-  by_end c b false e = stays 4 (λ z. absurd (omega arith)) (λ z. absurd (omega arith)) (sym (end-call rooms c b s (leb-false _ _ e)))
+  by_end c b true e = wrote_or rooms (all_freed c rooms) (rejects_in c rooms) (end c b) (end_size c rooms (sound_of rooms s).four) (sym (end_rejects rooms c b s _ (leb-true _ _ e) refl)) (ends (leb-true _ _ e))
+  by_end c b false e = stays 4 (λ z. absurd (omega arith)) (λ z. absurd (omega arith)) (sym (end_call rooms c b s (leb-false _ _ e)))
 
   pub went : (t : Turn) → Went rooms t
   went (question n c a b) = by_call n c a b (leb c 16383) refl

@@ -22,13 +22,13 @@ use Rattle.channel.specs.Questions.{Outcome, refusal, carried, asked_of, decisio
 use Rattle.channel.specs.Runs.{Turn, question, decision, end, lent_by, outcome, next, run, written_by, verdicts, verdicts_in, Handed, AllHanded}
 use Rattle.channel.specs.Demands as claims
 use Rattle.channel.specs.Demands.{is_question, Waiting, gives, decides, undecided, verdict_in, verdict_by}
-use Rattle.channel.proofs.Asking.{end-rejects}
-use Rattle.channel.proofs.Counting.{some-count, count-some, none-count, mono, never, beside, count-first, count-freed, free_no_number, number-held, number_is, has_own, waits-number, call-held, Sound, sound-is}
+use Rattle.channel.proofs.Asking.{end_rejects}
+use Rattle.channel.proofs.Counting.{some_count, count_some, none_count, mono, never, beside, count_first, count_freed, free_no_number, number_held, number_is, has_own, waits_number, call_held, Sound, sound_is}
 use Rattle.channel.proofs.Turns.{Wrote, room_for, Went, stays, answers, waits, ends, went}
 use Rattle.channel.proofs.Turns as turns
-use Rattle.channel.proofs.Reading.{small, times, verdicts-stays}
-use Rattle.channel.proofs.Kept.{somebody, room-number, no_number, count-answered, next-stays, next-sound, next_small, always, always_small}
-use Rattle.channel.proofs.Once.{asked-verdict, decided-verdict, one_verdict, no_verdict, end-verdicts}
+use Rattle.channel.proofs.Reading.{small, times, verdicts_stays}
+use Rattle.channel.proofs.Kept.{somebody, room_number, no_number, count_answered, next_stays, next_sound, next_small, always, always_small}
+use Rattle.channel.proofs.Once.{asked_verdict, decided_verdict, one_verdict, no_verdict, end_verdicts}
 
 -- ---- what holds of the room of a question
 
@@ -47,7 +47,7 @@ module _ (n c : ℕ) (w : Wait) (r : Room) where
 
   question_of_call : is_question n c w r ≡ true → of_call c r ≡ true
   unfolding of_call
-  question_of_call h = rw (number-held n r (question_number h)) (eq-eqb _ _ (question_call h))
+  question_of_call h = rw (number_held n r (question_number h)) (eq-eqb _ _ (question_call h))
 
   no_question : has_number n r ≡ false → is_question n c w r ≡ false
   unfolding is_question waits_for
@@ -58,12 +58,12 @@ module _ (n c : ℕ) (w : Wait) (r : Room) where
 
   question_elsewhere : (k : ℕ) → eqb k c ≡ false → is_question n c w r ≡ true → of_call k r ≡ false
   unfolding of_call
-  question_elsewhere k e h = rw (number-held n r (question_number h), question_call h) (ne_eqb c k (λ z. facts.apart (eq-eqb k c (sym z)) e))
+  question_elsewhere k e h = rw (number_held n r (question_number h), question_call h) (ne_eqb c k (λ z. facts.apart (eq-eqb k c (sym z)) e))
 
   question_fits : is_question n c w r ≡ true → room_fits r ≡ true → c ≤ 16383
   unfolding room_fits
   question_fits h f =
-      let y = rw (number-held n r (question_number h), question_call h) at f in
+      let y = rw (number_held n r (question_number h), question_call h) at f in
       leb-true _ _ y
 
 free_no_question : (n c : ℕ) (w : Wait) (r : Room) → is_free r ≡ true → is_question n c w r ≡ false
@@ -75,7 +75,7 @@ question_waits n c w u m r e f h = rw (e, f) (facts.and _ _ (question_number n c
 
 own_question : (w : Wait) (n c : ℕ) → eqb (wait_number w) 0 ≡ false → is_question n c w (room_for w n c) ≡ true
 unfolding is_question waits_for
-own_question w n c e = facts.and _ _ (facts.and _ _ (room-number w n c n e ∙ eq-eqb n n refl) (eq-eqb (wait_number w) _ refl)) (eq-eqb c c refl)
+own_question w n c e = facts.and _ _ (facts.and _ _ (room_number w n c n e ∙ eq-eqb n n refl) (eq-eqb (wait_number w) _ refl)) (eq-eqb c c refl)
 
 -- ---- it begins to wait
 
@@ -88,9 +88,9 @@ module _ (rooms : List Room) (n c a : ℕ) (b : List ℕ) where
   unfolding written_by
   begun w e f wr =
       let held = somebody a w e in
-      let z = count-first is_free (is_question n c w) false (free_no_question n c w) (room_for w n c) rooms f in
+      let z = count_first is_free (is_question n c w) false (free_no_question n c w) (room_for w n c) rooms f in
       let y = rw (own_question w n c held) at z in
-      (no_verdict n w wr, rw wr.is (stored (bytes_of (first_out w)) b wr.fits), rw (next-stays rooms (question n c a b) _ wr.is) (count-some (is_question n c w) (in_first is_free (room_for w n c) rooms) (omega (arith, y))))
+      (no_verdict n w wr, rw wr.is (stored (bytes_of (first_out w)) b wr.fits), rw (next_stays rooms (question n c a b) _ wr.is) (count_some (is_question n c w) (in_first is_free (room_for w n c) rooms) (omega (arith, y))))
 
   begins : (w : Wait) → asked_of a ≡ Asked.Is (Reply.Waits w) → (outcome rooms (question n c a b)).answer ≡ 0 → Went rooms (question n c a b) → Begins w
   begins w e zero (stays k not short is) = absurd (not (sym (ap (λ (o : Outcome). o.answer) is) ∙ zero))
@@ -98,7 +98,7 @@ module _ (rooms : List Room) (n c a : ℕ) (b : List ℕ) where
   begins w e zero (waits u f none free le wr) = let same : u ≡ w = cc in rw (← same) (begun u f free wr)
 
 pub waits_claim : claims.Waits
-waits_claim ts n c a w b e zero = begins (run fresh_rooms ts) n c a b w e zero (went (run fresh_rooms ts) (sound-is _ (always ts)) (question n c a b))
+waits_claim ts n c a w b e zero = begins (run fresh_rooms ts) n c a b w e zero (went (run fresh_rooms ts) (sound_is _ (always ts)) (question n c a b))
 
 -- ---- it goes on waiting
 
@@ -108,16 +108,16 @@ other_number n c m w rooms none is = by (eqb m n) refl
   where
     by : (b : Bool) → eqb m n ≡ b → b ≡ false
     by true e =
-        let z = none-count (has_number m) rooms none in
+        let z = none_count (has_number m) rooms none in
         let y = rw (eqb-true m n e) at z in
-        let x = some-count (is_question n c w) rooms is in
+        let x = some_count (is_question n c w) rooms is in
         let v = mono (is_question n c w) (has_number n) (question_number n c w) rooms in
         absurd (omega (arith, y, x, v))
     by false e = refl
 
 module _ (rooms : List Room) (s : Sound rooms) (h : every? small rooms ≡ true) (n c : ℕ) (w : Wait) (is : Waiting n c w rooms) where
   there : 1 ≤ count (is_question n c w) rooms
-  there = some-count (is_question n c w) rooms is
+  there = some_count (is_question n c w) rooms is
 
   abbrev Goes : Turn → Type 0
   Goes t = (verdicts n rooms t ≡ []) × Waiting n c w (next rooms t)
@@ -126,17 +126,17 @@ module _ (rooms : List Room) (s : Sound rooms) (h : every? small rooms ≡ true)
   other_decided : (m d : ℕ) (b : List ℕ) (u : Wait) (v : ℕ) → m < 65536 → decision_of d ≡ Decision.Gives u v → some? (waits_for m u) rooms ≡ true
       → Wrote rooms (decision m d b) (in_first (waits_for m u) free_room rooms) (Message.ChannelAnswer m v ∷ []) → eqb m n ≡ false → Goes (decision m d b)
   other_decided m d b u v g e f wr deny =
-      let z = count-first (waits_for m u) (is_question n c w) false (λ r k. no_question n c w r (waits-number m n u r k ∙ deny)) free_room rooms f in
+      let z = count_first (waits_for m u) (is_question n c w) false (λ r k. no_question n c w r (waits_number m n u r k ∙ deny)) free_room rooms f in
       let y = rw (no_question n c w free_room (no_number n)) at z in (
-        one_verdict n m v g (decided-verdict d u v e) wr ∙ ap (λ (b : Bool). cond b (v ∷ []) []) deny,
-        rw (next-stays rooms (decision m d b) _ wr.is) (count-some (is_question n c w) (in_first (waits_for m u) free_room rooms) (let x = there in omega (arith, y, x))),
+        one_verdict n m v g (decided_verdict d u v e) wr ∙ ap (λ (b : Bool). cond b (v ∷ []) []) deny,
+        rw (next_stays rooms (decision m d b) _ wr.is) (count_some (is_question n c w) (in_first (waits_for m u) free_room rooms) (let x = there in omega (arith, y, x))),
       )
 
   -- one for its number that it does not wait for is no decision that a room waits for
   not_waited : (m : ℕ) (u : Wait) → some? (waits_for m u) rooms ≡ true → m ≡ n → (wait_number u ≡ wait_number w → ⊥) → ⊥
   unfolding waits_for
   not_waited m u f e deny =
-      let p = some-count (waits_for m u) rooms f in
+      let p = some_count (waits_for m u) rooms f in
       let one = s.once n in
       let apart = beside (waits_for m u) (is_question n c w) (has_number n)
       (λ r k. ap (λ (z : ℕ). has_number z r) (sym e) ∙ facts.left (has_number m r) _ k) (question_number n c w)
@@ -159,32 +159,32 @@ module _ (rooms : List Room) (s : Sound rooms) (h : every? small rooms ≡ true)
       let one = s.once n in
       let x = there in
       let none : count (λ r. has_number n r && of_call k r) rooms ≡ 0 = omega (arith, apart, one, x) in
-      let z = count-freed (is_question n c w) k (no_question n c w free_room (no_number n)) rooms in
+      let z = count_freed (is_question n c w) k (no_question n c w free_room (no_number n)) rooms in
       let gone = never (λ r. is_question n c w r && of_call k r) (λ r. elsewhere r (is_question n c w r) refl) rooms in
-      (end-verdicts n k h wr ∙ ap times none, rw (next-stays rooms (end k b) _ wr.is) (count-some (is_question n c w) (all_freed k rooms) (omega (arith, z, gone, x))))
+      (end_verdicts n k h wr ∙ ap times none, rw (next_stays rooms (end k b) _ wr.is) (count_some (is_question n c w) (all_freed k rooms) (omega (arith, z, gone, x))))
     where
       elsewhere : (r : Room) (q : Bool) → is_question n c w r ≡ q → q && of_call k r ≡ false
       elsewhere r true e = question_elsewhere n c w r k deny e
       elsewhere r false e = refl
 
   -- taken, so that it was not for want of room
-  undecided-taken : (t : Turn) (k : Bool) → (outcome rooms t).answer ≡ 0 → not k || eqb (outcome rooms t).answer 7 ≡ true → k ≡ false
-  undecided-taken t true zero e = let y = rw zero at e in facts.apart y refl
-  undecided-taken t false zero e = refl
+  undecided_taken : (t : Turn) (k : Bool) → (outcome rooms t).answer ≡ 0 → not k || eqb (outcome rooms t).answer 7 ≡ true → k ≡ false
+  undecided_taken t true zero e = let y = rw zero at e in facts.apart y refl
+  undecided_taken t false zero e = refl
 
   goes_on : (t : Turn) → Handed t → not (decides n c w t) || eqb (outcome rooms t).answer 7 ≡ true → Went rooms t → Goes t
-  goes_on t g deny (stays k not short e) = (verdicts-stays rooms t n k e, rw (next-stays rooms t _ e) is)
+  goes_on t g deny (stays k not short e) = (verdicts_stays rooms t n k e, rw (next_stays rooms t _ e) is)
   goes_on (question m k a b) g deny (answers v e none wr) = (
-    one_verdict n m v g (asked-verdict a v e) wr ∙ ap (λ (b : Bool). cond b (v ∷ []) []) (other_number n c m w rooms none is),
-    rw (next-stays rooms (question m k a b) _ wr.is) is,
+    one_verdict n m v g (asked_verdict a v e) wr ∙ ap (λ (b : Bool). cond b (v ∷ []) []) (other_number n c m w rooms none is),
+    rw (next_stays rooms (question m k a b) _ wr.is) is,
   )
   goes_on (question m k a b) g deny (waits u e none f le wr) =
-      let z = count-first is_free (is_question n c w) false (free_no_question n c w) (room_for u m k) rooms f in
-      (no_verdict n u wr, rw (next-stays rooms (question m k a b) _ wr.is) (count-some (is_question n c w) (in_first is_free (room_for u m k) rooms) (let x = there in omega (arith, z, x))))
+      let z = count_first is_free (is_question n c w) false (free_no_question n c w) (room_for u m k) rooms f in
+      (no_verdict n u wr, rw (next_stays rooms (question m k a b) _ wr.is) (count_some (is_question n c w) (in_first is_free (room_for u m k) rooms) (let x = there in omega (arith, z, x))))
   goes_on (decision m d b) g deny (turns.decides u v e f wr) =
-      let untrue = undecided-taken (decision m d b) (eqb m n && gives w (decision_of d)) (ap (λ (o : Outcome). o.answer) wr.is) deny in
+      let untrue = undecided_taken (decision m d b) (eqb m n && gives w (decision_of d)) (ap (λ (o : Outcome). o.answer) wr.is) deny in
       by_number_lem m d b u v g e f wr (eqb m n) (eqb (wait_number u) (wait_number w)) refl refl (rw e at untrue)
-  goes_on (end k b) g deny (ends le wr) = other_end k b wr (undecided-taken (end k b) (eqb k c) (ap (λ (o : Outcome). o.answer) wr.is) deny)
+  goes_on (end k b) g deny (ends le wr) = other_end k b wr (undecided_taken (end k b) (eqb k c) (ap (λ (o : Outcome). o.answer) wr.is) deny)
 
 run-append : (rooms : List Room) (ts us : List Turn) → run rooms (ts ++ us) ≡ run (run rooms ts) us
 unfolding run
@@ -196,8 +196,8 @@ not_before : (rooms : List Room) (us : List Turn) (n c : ℕ) (w : Wait) → Sou
 unfolding verdicts_in run
 not_before rooms [] n c w s h g is deny = (refl, is)
 not_before rooms (t ∷ us) n c w s h g is deny =
-    let here = goes_on rooms s h n c w is t g.0 (facts.left _ _ deny) (went rooms (sound-is rooms s) t) in
-    let later = not_before (next rooms t) us n c w (next-sound rooms s t) (next_small rooms s h t g.0) g.1 here.1 (facts.right (not (decides n c w t) || eqb (outcome rooms t).answer 7) _ deny) in
+    let here = goes_on rooms s h n c w is t g.0 (facts.left _ _ deny) (went rooms (sound_is rooms s) t) in
+    let later = not_before (next rooms t) us n c w (next_sound rooms s t) (next_small rooms s h t g.0) g.1 here.1 (facts.right (not (decides n c w t) || eqb (outcome rooms t).answer 7) _ deny) in
     (rw here.0 later.0, later.1)
 
 pub not_before_claim : claims.NotBefore
@@ -232,26 +232,26 @@ module _ (rooms : List Room) (s : Sound rooms) (h : every? small rooms ≡ true)
   Answers t = (verdicts n rooms t ≡ verdict_by t ∷ []) × (count (has_number n) (next rooms t) ≡ 0) × (some? is_free (next rooms t) ≡ true)
 
   here : 1 ≤ count (is_question n c w) rooms
-  here = some-count (is_question n c w) rooms is
+  here = some_count (is_question n c w) rooms is
 
   waits_not_free : (m : ℕ) (u : Wait) (r : Room) → waits_for m u r ≡ true → is_free r ≡ false
   unfolding waits_for
-  waits_not_free m u r k = number-held m r (facts.left (has_number m r) _ k)
+  waits_not_free m u r k = number_held m r (facts.left (has_number m r) _ k)
 
   decided : (m d : ℕ) (b : List ℕ) (u : Wait) (v : ℕ) → m < 65536 → m ≡ n → wait_number u ≡ wait_number w → decision_of d ≡ Decision.Gives u v
       → ((outcome rooms (decision m d b)).answer ≡ 7 → ⊥) → Answers (decision m d b)
   unfolding outcome decide_of is_free
   decided m d b u v g same wait e deny =
-      let f : some? (waits_for m u) rooms ≡ true = count-some (waits_for m u) rooms (let z = mono (is_question n c w) (waits_for m u) (λ r q. question_waits n c w u m r same wait q) rooms in let x = here in omega (arith, z, x)) in
-      let wr : Wrote rooms (decision m d b) (in_first (waits_for m u) free_room rooms) (Message.ChannelAnswer m v ∷ []) = wrote_if rooms _ _ (decision m d b) (rw (sound-is rooms s, e, f)) deny in
+      let f : some? (waits_for m u) rooms ≡ true = count_some (waits_for m u) rooms (let z = mono (is_question n c w) (waits_for m u) (λ r q. question_waits n c w u m r same wait q) rooms in let x = here in omega (arith, z, x)) in
+      let wr : Wrote rooms (decision m d b) (in_first (waits_for m u) free_room rooms) (Message.ChannelAnswer m v ∷ []) = wrote_if rooms _ _ (decision m d b) (rw (sound_is rooms s, e, f)) deny in
       let yes : eqb m n ≡ true = eq-eqb m n same in
-      let z = count-answered u m n rooms f in
+      let z = count_answered u m n rooms f in
       let y = rw yes at z in
       let one = s.once n in
-      let free = count-first (waits_for m u) is_free false (waits_not_free m u) free_room rooms f in (
-        one_verdict n m v g (decided-verdict d u v e) wr ∙ ap (λ (b : Bool). cond b (v ∷ []) []) yes ∙ ap (λ (q : Decision). verdict_in q ∷ []) (sym e),
-        rw (next-stays rooms (decision m d b) _ wr.is) (omega (arith, y, one)),
-        rw (next-stays rooms (decision m d b) _ wr.is) (count-some is_free (in_first (waits_for m u) free_room rooms) (omega (arith, free))),
+      let free = count_first (waits_for m u) is_free false (waits_not_free m u) free_room rooms f in (
+        one_verdict n m v g (decided_verdict d u v e) wr ∙ ap (λ (b : Bool). cond b (v ∷ []) []) yes ∙ ap (λ (q : Decision). verdict_in q ∷ []) (sym e),
+        rw (next_stays rooms (decision m d b) _ wr.is) (omega (arith, y, one)),
+        rw (next_stays rooms (decision m d b) _ wr.is) (count_some is_free (in_first (waits_for m u) free_room rooms) (omega (arith, free))),
       )
 
   by_decision : (m d : ℕ) (b : List ℕ) → m < 65536 → (q : Decision) → decision_of d ≡ q → eqb m n && gives w q ≡ true → ((outcome rooms (decision m d b)).answer ≡ 7 → ⊥) → Answers (decision m d b)
@@ -266,27 +266,27 @@ module _ (rooms : List Room) (s : Sound rooms) (h : every? small rooms ≡ true)
       by true e q again = question_fits n c w r e (facts.left (room_fits r) _ f)
       by false e q again = again q
 
-  at-end : (k : ℕ) (b : List ℕ) → k ≡ c → ((outcome rooms (end k b)).answer ≡ 7 → ⊥) → Answers (end k b)
+  at_end : (k : ℕ) (b : List ℕ) → k ≡ c → ((outcome rooms (end k b)).answer ≡ 7 → ⊥) → Answers (end k b)
   unfolding outcome
-  at-end k b same deny =
+  at_end k b same deny =
       let le : k ≤ 16383 = (let z = call_fits rooms s.fit is in omega (arith, z, same)) in
-      let wr : Wrote rooms (end k b) (all_freed k rooms) (rejects_in k rooms) = wrote_if rooms _ _ (end k b) (sym (end-rejects rooms k b (sound-is rooms s) _ le refl)) deny in
+      let wr : Wrote rooms (end k b) (all_freed k rooms) (rejects_in k rooms) = wrote_if rooms _ _ (end k b) (sym (end_rejects rooms k b (sound_is rooms s) _ le refl)) deny in
       let low = mono (is_question n c w) (λ r. has_number n r && of_call k r) (λ r q. rw same (question_both n c w r q)) rooms in
       let high = mono (λ r. has_number n r && of_call k r) (has_number n) (λ r q. facts.left (has_number n r) _ q) rooms in
       let mine = mono (λ r. has_number n r && of_call k r) (of_call k) (λ r q. facts.right (has_number n r) _ q) rooms in
       let one = s.once n in
       let x = here in
       let once : count (λ r. has_number n r && of_call k r) rooms ≡ 1 = omega (arith, low, high, one, x) in
-      let z = count-freed (has_number n) k (no_number n) rooms in (
-        end-verdicts n k h wr ∙ ap times once,
-        rw (next-stays rooms (end k b) _ wr.is) (omega (arith, z, once, one)),
-        rw (next-stays rooms (end k b) _ wr.is) (freed_free k rooms (count-some (of_call k) rooms (omega (arith, mine, once)))),
+      let z = count_freed (has_number n) k (no_number n) rooms in (
+        end_verdicts n k h wr ∙ ap times once,
+        rw (next_stays rooms (end k b) _ wr.is) (omega (arith, z, once, one)),
+        rw (next_stays rooms (end k b) _ wr.is) (freed_free k rooms (count_some (of_call k) rooms (omega (arith, mine, once)))),
       )
 
   pub then : (t : Turn) → Handed t → decides n c w t ≡ true → ((outcome rooms t).answer ≡ 7 → ⊥) → Answers t
   then (question m k a b) g d deny = facts.apart d refl
   then (decision m q b) g d deny = by_decision m q b g (decision_of q) refl d deny
-  then (end k b) g d deny = at-end k b (eqb-true k c d) deny
+  then (end k b) g d deny = at_end k b (eqb-true k c d) deny
 
 pub then_claim : claims.Then
 then_claim ts t n c w g k is d deny = then (run fresh_rooms ts) (always ts) (always_small ts g) n c w is t k d deny

@@ -42,8 +42,8 @@ abbrev pub cancels : List ℕ
 cancels = 4 ∷ 0 ∷ 4 ∷ 6 ∷ []
 
 -- four wait, the fifth gets 51; one is answered, and the fifth waits in its room
-abbrev pub four-wait : List Line
-four-wait =
+abbrev pub four_wait : List Line
+four_wait =
     line (question 1 21 2 (lent 0)) 0 [] (1 ∷ [])
     ∷ line (question 2 22 3 (lent 7)) 0 cancels (1 ∷ 2 ∷ [])
     ∷ line (question 3 23 2 (lent 7)) 0 [] (1 ∷ 2 ∷ 3 ∷ [])

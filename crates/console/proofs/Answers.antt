@@ -28,11 +28,11 @@ use Rattle.console.specs.Route.{console_number, aim_of, aimed, at_named, at_lowe
 use Rattle.console.specs.Console.{ConsoleOutcome, at_place, routed, takes, writes, headed}
 use Rattle.console.specs.Runs.{console_outcome, all_fits}
 use Rattle.console.specs.Answers.{place_over, id_held, id_awaited, no_idle_place, none_fits, no_row_there, transmits_there, too_long, console_applies, Answered}
-use Rattle.console.proofs.Answering.{placed-answer}
-use Rattle.console.proofs.Everywhere.{part-size}
+use Rattle.console.proofs.Answering.{placed_answer}
+use Rattle.console.proofs.Everywhere.{part_size}
 use Rattle.console.proofs.Placing.{bytes_at}
 use Rattle.console.proofs.Tables.{eight_of}
-use Rattle.console.proofs.Turns.{Everywhere, everywhere_does, none-takes, no_room, all_take, Came, came, unsound, unread, routes, routed-is}
+use Rattle.console.proofs.Turns.{Everywhere, everywhere_does, none_takes, no_room, all_take, Came, came, unsound, unread, routes, routed_is}
 
 -- ---- the room at one place: behind five bytes, or none where nothing is written
 
@@ -44,9 +44,9 @@ same_test a b c d f g = by (leb a b) (leb c d) refl refl
     by false true h w = apart (le-leb a b (g (leb-true c d w))) h
     by false false h w = h ∙ sym w
 
-headed-fits : (n l : ℕ) (z : Bool) → eqb n 0 ≡ z → leb (cond z 0 (5 + n)) l ≡ leb n (l - 5)
-headed-fits n l true e = same_test 0 l n (l - 5) (λ h. omega (arith, eqb-true n 0 e)) (λ h. omega arith)
-headed-fits n l false e = same_test (5 + n) l n (l - 5) (λ h. omega arith) (λ h. some_fits h)
+headed_fits : (n l : ℕ) (z : Bool) → eqb n 0 ≡ z → leb (cond z 0 (5 + n)) l ≡ leb n (l - 5)
+headed_fits n l true e = same_test 0 l n (l - 5) (λ h. omega (arith, eqb-true n 0 e)) (λ h. omega arith)
+headed_fits n l false e = same_test (5 + n) l n (l - 5) (λ h. omega arith) (λ h. some_fits h)
   where
     some_fits : n ≤ l - 5 → 5 + n ≤ l
     some_fits h = by (ltb l (5 + n)) refl
@@ -62,8 +62,8 @@ module _ (calls : List Call) (e : Event) (b : List ℕ) (k : ℕ) where
   row_room : takes e c ≡ true → leb (length (bytes_at c e)) (length (drop 5 b)) ≡ leb (length (bytes_of (writes k c e))) (length b)
   row_room t =
       let size : length (bytes_of (writes k c e)) ≡ headed (length (bytes_at c e)) =
-      sym (ap (λ (x : Bool). length (bytes_of (cond x (writes k c e) []))) t) ∙ part-size c e k true t in
-      rw (size, length-drop 5 b) (sym (headed-fits (length (bytes_at c e)) (length b) (eqb (length (bytes_at c e)) 0) refl))
+      sym (ap (λ (x : Bool). length (bytes_of (cond x (writes k c e) []))) t) ∙ part_size c e k true t in
+      rw (size, length-drop 5 b) (sym (headed_fits (length (bytes_at c e)) (length b) (eqb (length (bytes_at c e)) 0) refl))
 
   by_tests_lem : (row over room fits : Bool) → (row ≡ true → room ≡ fits) → {d : Outcome}
       → d ≡ by_tests false row over room c (row_for c e) (drop 5 b)
@@ -75,28 +75,28 @@ module _ (calls : List Call) (e : Event) (b : List ℕ) (k : ℕ) where
   by_tests_lem true false false true f same = apart (f refl) refl
   by_tests_lem true false true false f same = apart refl (f refl)
 
-  decided-is : other_call c e ≡ false
+  decided_is : other_call c e ≡ false
       → decided c e (drop 5 b) ≡ by_tests false (takes e c) (over_transmission c e) (leb (length (bytes_at c e)) (length (drop 5 b))) c (row_for c e) (drop 5 b)
   unfolding decided carried
-  decided-is ours = rw ours
+  decided_is ours = rw ours
 
   one_place : other_call c e ≡ false
       → (at_place k calls e b).answer ≡ cond (no_row_there (Route.To k) calls e) 6 (cond (transmits_there (Route.To k) calls e) 8 (cond (too_long (Route.To k) calls e b) 7 0))
   unfolding at_place
   one_place ours =
-      placed-answer k c e b
-      ∙ by_tests_lem (takes e c) (over_transmission c e) (leb (length (bytes_at c e)) (length (drop 5 b))) (leb (length (bytes_of (writes k c e))) (length b)) row_room (decided-is ours)
+      placed_answer k c e b
+      ∙ by_tests_lem (takes e c) (over_transmission c e) (leb (length (bytes_at c e)) (length (drop 5 b))) (leb (length (bytes_of (writes k c e))) (length b)) row_room (decided_is ours)
 
 -- ---- every place
 
-every-place : (calls : List Call) (e : Event) (b : List ℕ)
+every_place : (calls : List Call) (e : Event) (b : List ℕ)
     → (routed Route.Everywhere calls e b).answer
     ≡ cond (no_row_there Route.Everywhere calls e) 6 (cond (transmits_there Route.Everywhere calls e) 8 (cond (too_long Route.Everywhere calls e b) 7 0))
-every-place calls e b = by (everywhere_does calls e b)
+every_place calls e b = by (everywhere_does calls e b)
   where
     by : Everywhere calls e b
         → (routed Route.Everywhere calls e b).answer ≡ cond (not (some? (takes e) calls)) 6 (cond false 8 (cond (not (all_fits calls e b)) 7 0))
-    by (none-takes s d) = rw s (ap (λ (o : ConsoleOutcome). o.answer) d)
+    by (none_takes s d) = rw s (ap (λ (o : ConsoleOutcome). o.answer) d)
     by (no_room s f d) = rw (s, f) (ap (λ (o : ConsoleOutcome). o.answer) d)
     by (all_take s f d) = rw (s, f) (ap (λ (o : ConsoleOutcome). o.answer) d)
 
@@ -114,9 +114,9 @@ lowest_there p (x ∷ calls) = by (p x) (lowest_there p calls)
     by true rest = lt-ltb 0 (suc (length calls)) (omega arith)
     by false rest = suc_less (lowest p calls) (length calls) (some? p calls) rest
 
-lowest-is : (p : Call → Bool) (calls : List Call) → some? p calls ≡ true → p (call_at calls (lowest p calls)) ≡ true
-lowest-is p [] some = apart some refl
-lowest-is p (x ∷ calls) some = by (p x) refl some (λ rest. lowest-is p calls rest)
+lowest_is : (p : Call → Bool) (calls : List Call) → some? p calls ≡ true → p (call_at calls (lowest p calls)) ≡ true
+lowest_is p [] some = apart some refl
+lowest_is p (x ∷ calls) some = by (p x) refl some (λ rest. lowest_is p calls rest)
   where
     by : (b : Bool) → p x ≡ b → (b || some? p calls) ≡ true → (some? p calls ≡ true → p (call_at calls (lowest p calls)) ≡ true)
         → p (call_at (x ∷ calls) (cond b 0 (suc (lowest p calls)))) ≡ true
@@ -132,30 +132,30 @@ call_named (Aim.Incoming i) = Named.NoCall
 call_named (Aim.Held i) = Named.Id i
 call_named Aim.Every = Named.NoCall
 
-call-named : (e : Event) → named_in e ≡ call_named (aim_of e)
-call-named (Event.SetupRequest a d q s) = refl
-call-named Event.SetupResponse = refl
-call-named Event.ReleaseRequest = refl
-call-named (Event.TxRequest k) = refl
-call-named (Event.DCallProceeding i) = refl
-call-named (Event.DAlert i) = refl
-call-named (Event.DConnect i g d o s) = refl
-call-named (Event.DConnectAcknowledge i g o) = refl
-call-named (Event.DSetup i a d) = refl
-call-named (Event.DInfo i r o d s) = refl
-call-named (Event.DTxGranted i g) = refl
-call-named (Event.DTxCeased i) = refl
-call-named (Event.DTxInterrupt i g) = refl
-call-named (Event.DTxWait i) = refl
-call-named (Event.DTxContinue i k) = refl
-call-named (Event.DCallRestore i g r o) = refl
-call-named (Event.DDisconnect i) = refl
-call-named (Event.DRelease i) = refl
-call-named Event.ReportSent = refl
-call-named Event.ReportFailed = refl
-call-named Event.Break = refl
-call-named Event.Resume = refl
-call-named (Event.Expiry n) = refl
+call_named_lem : (e : Event) → named_in e ≡ call_named (aim_of e)
+call_named_lem (Event.SetupRequest a d q s) = refl
+call_named_lem Event.SetupResponse = refl
+call_named_lem Event.ReleaseRequest = refl
+call_named_lem (Event.TxRequest k) = refl
+call_named_lem (Event.DCallProceeding i) = refl
+call_named_lem (Event.DAlert i) = refl
+call_named_lem (Event.DConnect i g d o s) = refl
+call_named_lem (Event.DConnectAcknowledge i g o) = refl
+call_named_lem (Event.DSetup i a d) = refl
+call_named_lem (Event.DInfo i r o d s) = refl
+call_named_lem (Event.DTxGranted i g) = refl
+call_named_lem (Event.DTxCeased i) = refl
+call_named_lem (Event.DTxInterrupt i g) = refl
+call_named_lem (Event.DTxWait i) = refl
+call_named_lem (Event.DTxContinue i k) = refl
+call_named_lem (Event.DCallRestore i g r o) = refl
+call_named_lem (Event.DDisconnect i) = refl
+call_named_lem (Event.DRelease i) = refl
+call_named_lem Event.ReportSent = refl
+call_named_lem Event.ReportFailed = refl
+call_named_lem Event.Break = refl
+call_named_lem Event.Resume = refl
+call_named_lem (Event.Expiry n) = refl
 
 of_no_call : (c : Call) (e : Event) → named_in e ≡ Named.NoCall → other_call c e ≡ false
 unfolding other_call
@@ -207,8 +207,8 @@ module _ (calls : List Call) (eight : length calls ≡ 8) (e : Event) (b : List 
   to_holder : (i : ℕ) → named_in e ≡ Named.Id i → (t s : Bool) → some? (holds i) calls ≡ t → some? (holds 0) calls ≡ s → {r : Route}
       → r ≡ cond t (Route.To (lowest (holds i) calls)) (cond s (Route.To (lowest (holds 0) calls)) (Route.Refused (ConsoleAnswer.OfStep Answer.OtherCall)))
       → (routed r calls e b).answer ≡ cond (not t && not s) 5 (own r)
-  to_holder i n true s h g goes = rw goes (one_place calls e b (lowest (holds i) calls) (of_holder _ e i n (lowest-is (holds i) calls h)))
-  to_holder i n false true h g goes = rw goes (one_place calls e b (lowest (holds 0) calls) (of_awaiting _ e i n (lowest-is (holds 0) calls g)))
+  to_holder i n true s h g goes = rw goes (one_place calls e b (lowest (holds i) calls) (of_holder _ e i n (lowest_is (holds i) calls h)))
+  to_holder i n false true h g goes = rw goes (one_place calls e b (lowest (holds 0) calls) (of_awaiting _ e i n (lowest_is (holds 0) calls g)))
   to_holder i n false false h g goes = rw goes
 
   by_aim : (a : Aim) (place : ℕ) → named_in e ≡ call_named a
@@ -220,7 +220,7 @@ module _ (calls : List Call) (eight : length calls ≡ 8) (e : Event) (b : List 
   by_aim Aim.Outgoing place n = rw (there (holds 0)) (to_new (holds 0) ConsoleAnswer.IdAwaited n (some? (holds 0) calls) refl)
   by_aim (Aim.Incoming i) place n = rw (there (holds i)) (to_new (holds i) ConsoleAnswer.IdHeld n (some? (holds i) calls) refl)
   by_aim (Aim.Held i) place n = to_holder i n (some? (holds i) calls) (some? (holds 0) calls) refl refl {r = at_holder calls i} (rw (there (holds i), there (holds 0)))
-  by_aim Aim.Every place n = every-place calls e b
+  by_aim Aim.Every place n = every_place calls e b
 
 -- ---- bytes that are no event
 
@@ -248,4 +248,4 @@ answered calls t = by (came calls t)
     by (routes e r s h to o) =
         let passes = read_passes t.event e (reads t.event) h in
         rw (s, passes.0, passes.1, passes.2, passes.3, h)
-        (ap (λ (o : ConsoleOutcome). o.answer) (routed-is calls t s h refl) ∙ by_aim calls (eight_of calls s) e t.buffer (aim_of e) t.place (call-named e))
+        (ap (λ (o : ConsoleOutcome). o.answer) (routed_is calls t s h refl) ∙ by_aim calls (eight_of calls s) e t.buffer (aim_of e) t.place (call_named_lem e))

@@ -17,7 +17,7 @@ use Rattle.callcontrol.specs.declared.call.Call.{Call}
 use Rattle.callcontrol.specs.Call.{is_idle, in_range, sound}
 use Rattle.demands.proofs.Facts.{left, right}
 use Rattle.demands.proofs.Ranges.{Carries, carries, connect_carries, info_carries}
-use Rattle.demands.proofs.Reading.{read-fine}
+use Rattle.demands.proofs.Reading.{read_fine}
 use Rattle.console.specs.declared.route.Aim.{Aim}
 use Rattle.console.specs.declared.route.Route.{Route}
 use Rattle.console.specs.declared.route.Led.{Led}
@@ -27,8 +27,8 @@ use Rattle.console.specs.Console.{ConsoleOutcome, refuses_at, at_place, everywhe
 use Rattle.console.specs.Keys.{key_of, keys_from, lowest_key, some_key, apart_by, held_by, idle_by, at_idle_by, outgoing_by, incoming_by, at_holder_by, aimed_by, route_by, Lead, goes_to, goes_everywhere, goes_nowhere, as_lead, along, lead_by}
 use Rattle.console.proofs.Places.{rest, nothing_left}
 use Rattle.console.proofs.Routing.{to_place, to_all}
-use Rattle.console.proofs.Tables.{sound-all}
-use Rattle.console.proofs.Twins.{idle-id}
+use Rattle.console.proofs.Tables.{sound_all}
+use Rattle.console.proofs.Twins.{idle_id}
 
 -- ---- who holds an identifier
 held_by_lem : (b : Bool) (i k n : ℕ) → i ≤ 16383 → eqb (cond b (16384 + k) n) i ≡ (not b && eqb n i)
@@ -50,18 +50,18 @@ id_most c ok =
     let most : leb c.id 16383 ≡ true = search (left, right) depth 20 in
     leb-true c.id 16383 most
 
-idle-by : (b : Bool) (k n : ℕ) → n ≤ 16383 → leb 16384 (cond b (16384 + k) n) ≡ b
-idle-by true k n le = le-leb 16384 (16384 + k) (omega arith)
-idle-by false k n le = lt-leb 16384 n (omega arith)
+idle_by_lem : (b : Bool) (k n : ℕ) → n ≤ 16383 → leb 16384 (cond b (16384 + k) n) ≡ b
+idle_by_lem true k n le = le-leb 16384 (16384 + k) (omega arith)
+idle_by_lem false k n le = lt-leb 16384 n (omega arith)
 
-pub lowest-idle-by : (k : ℕ) (cs : List Call) → every? sound cs ≡ true → lowest is_idle cs ≡ lowest_key (leb 16384) (keys_from k cs)
-lowest-idle-by k [] ok = refl
-lowest-idle-by k (c ∷ cs) ok = λ j. cond (sym (idle-by (is_idle c) k c.id (id_most c (left (sound c) _ ok))) j) 0 (suc (lowest-idle-by (suc k) cs (right (sound c) _ ok) j))
+pub lowest_idle_by : (k : ℕ) (cs : List Call) → every? sound cs ≡ true → lowest is_idle cs ≡ lowest_key (leb 16384) (keys_from k cs)
+lowest_idle_by k [] ok = refl
+lowest_idle_by k (c ∷ cs) ok = λ j. cond (sym (idle_by_lem (is_idle c) k c.id (id_most c (left (sound c) _ ok))) j) 0 (suc (lowest_idle_by (suc k) cs (right (sound c) _ ok) j))
 
 -- ---- whether two are alike
-none-with : (m : ℕ) (b : Bool) → eqb m 0 ≡ b → (b && (leb 1 m || false)) ≡ false
-none-with m false e = refl
-none-with m true e = let z = eqb-true m 0 e in ap (λ (n : ℕ). leb 1 n || false) z
+none_with : (m : ℕ) (b : Bool) → eqb m 0 ≡ b → (b && (leb 1 m || false)) ≡ false
+none_with m false e = refl
+none_with m true e = let z = eqb-true m 0 e in ap (λ (n : ℕ). leb 1 n || false) z
 
 some_with : (x y : Bool) → x ≡ (x && (y || true))
 some_with false y = refl
@@ -72,20 +72,20 @@ twin_by : (a b : Bool) (j k m n : ℕ) → j < k → m ≤ 16383 → n ≤ 16383
     → eqb (cond a (16384 + j) m) (cond b (16384 + k) n) ≡ (eqb m n && (leb 1 m || not a && not b))
 twin_by true true j k m n lt p q y z = ne_eqb (16384 + j) (16384 + k) (λ e. omega arith) ∙ sym (λ i. eqb (y refl i) (z refl i) && (leb 1 (y refl i) || false))
 twin_by true false j k m n lt p q y z = ne_eqb (16384 + j) n (λ e. omega arith) ∙ sym (ap (λ (x : ℕ). eqb x n && (leb 1 x || false)) (y refl) ∙ and-false (eqb 0 n))
-twin_by false true j k m n lt p q y z = ne_eqb m (16384 + k) (λ e. omega arith) ∙ sym (ap (λ (x : ℕ). eqb m x && (leb 1 m || false)) (z refl) ∙ none-with m (eqb m 0) refl)
+twin_by false true j k m n lt p q y z = ne_eqb m (16384 + k) (λ e. omega arith) ∙ sym (ap (λ (x : ℕ). eqb m x && (leb 1 m || false)) (z refl) ∙ none_with m (eqb m 0) refl)
 twin_by false false j k m n lt p q y z = some_with (eqb m n) (leb 1 m)
 
 twin_key : (j k : ℕ) (c d : Call) → j < k → sound c ≡ true → sound d ≡ true → eqb (key_of j c) (key_of k d) ≡ alike c d
 unfolding alike
-twin_key j k c d lt p q = twin_by (is_idle c) (is_idle d) j k c.id d.id lt (id_most c p) (id_most d q) (idle-id c p) (idle-id d q)
+twin_key j k c d lt p q = twin_by (is_idle c) (is_idle d) j k c.id d.id lt (id_most c p) (id_most d q) (idle_id c p) (idle_id d q)
 
-some-by : (j k : ℕ) (c : Call) (ds : List Call) → j < k → sound c ≡ true → every? sound ds ≡ true → some? (alike c) ds ≡ some_key (key_of j c) (keys_from k ds)
-some-by j k c [] lt p q = refl
-some-by j k c (d ∷ ds) lt p q = λ i. sym (twin_key j k c d lt p (left (sound d) _ q)) i || some-by j (suc k) c ds (omega arith) p (right (sound d) _ q) i
+some_by : (j k : ℕ) (c : Call) (ds : List Call) → j < k → sound c ≡ true → every? sound ds ≡ true → some? (alike c) ds ≡ some_key (key_of j c) (keys_from k ds)
+some_by j k c [] lt p q = refl
+some_by j k c (d ∷ ds) lt p q = λ i. sym (twin_key j k c d lt p (left (sound d) _ q)) i || some_by j (suc k) c ds (omega arith) p (right (sound d) _ q) i
 
 pub apart_by_lem : (k : ℕ) (cs : List Call) → every? sound cs ≡ true → apart cs ≡ apart_by (keys_from k cs)
 apart_by_lem k [] ok = refl
-apart_by_lem k (c ∷ cs) ok = λ i. not (some-by k (suc k) c cs (omega arith) (left (sound c) _ ok) (right (sound c) _ ok) i) && apart_by_lem (suc k) cs (right (sound c) _ ok) i
+apart_by_lem k (c ∷ cs) ok = λ i. not (some_by k (suc k) c cs (omega arith) (left (sound c) _ ok) (right (sound c) _ ok) i) && apart_by_lem (suc k) cs (right (sound c) _ ok) i
 
 -- ---- where an event goes
 
@@ -126,21 +126,21 @@ module _ (calls : List Call) (ok : every? sound calls ≡ true) where
   abbrev keys : List ℕ
   keys = keys_from 0 calls
 
-  at-idle-by : at_lowest_idle calls ≡ at_idle_by keys
+  at_idle_by_lem : at_lowest_idle calls ≡ at_idle_by keys
   unfolding at_lowest_idle at_idle_by
-  at-idle-by = rw (lowest-idle-by 0 calls ok)
+  at_idle_by_lem = rw (lowest_idle_by 0 calls ok)
 
-  aimed-by : (a : Aim) (place : ℕ) → Small a → aimed a calls place ≡ aimed_by a keys place
+  aimed_by_lem : (a : Aim) (place : ℕ) → Small a → aimed a calls place ≡ aimed_by a keys place
   unfolding outgoing outgoing_by incoming incoming_by at_holder at_holder_by
-  aimed-by Aim.Place place s = refl
-  aimed-by Aim.Outgoing place s = rw (holder_by 0 0 calls (lit≤ tt), at-idle-by)
-  aimed-by (Aim.Incoming i) place s = rw (holder_by i 0 calls s, at-idle-by)
-  aimed-by (Aim.Held i) place s = rw (holder_by i 0 calls s, holder_by 0 0 calls (lit≤ tt))
-  aimed-by Aim.Every place s = refl
+  aimed_by_lem Aim.Place place s = refl
+  aimed_by_lem Aim.Outgoing place s = rw (holder_by 0 0 calls (lit≤ tt), at_idle_by_lem)
+  aimed_by_lem (Aim.Incoming i) place s = rw (holder_by i 0 calls s, at_idle_by_lem)
+  aimed_by_lem (Aim.Held i) place s = rw (holder_by i 0 calls s, holder_by 0 0 calls (lit≤ tt))
+  aimed_by_lem Aim.Every place s = refl
 
   route_by_lem : (s : List ℕ) (place : ℕ) (e : Event) → read events s ≡ taken e → route_of calls place e ≡ route_by keys place e
   unfolding route_of route_by
-  route_by_lem s place e h = aimed-by (aim_of e) place (small e (carries e (read-fine s e h)))
+  route_by_lem s place e h = aimed_by_lem (aim_of e) place (small e (carries e (read_fine s e h)))
 
 -- what comes back by where it leads
 abbrev pub goes : Lead → List Call → List ℕ → ConsoleOutcome
@@ -148,10 +148,10 @@ goes (goes_to k e) calls b = at_place k calls e b
 goes (goes_everywhere e) calls b = everywhere calls e b
 goes (goes_nowhere n p) calls b = refuses_at n p calls b
 
-along-goes : (r : Route) (calls : List Call) (e : Event) (b : List ℕ) → goes (along e r) calls b ≡ routed r calls e b
-along-goes (Route.To k) calls e b = refl
-along-goes Route.Everywhere calls e b = refl
-along-goes (Route.Refused a) calls e b = refl
+along_goes : (r : Route) (calls : List Call) (e : Event) (b : List ℕ) → goes (along e r) calls b ≡ routed r calls e b
+along_goes (Route.To k) calls e b = refl
+along_goes Route.Everywhere calls e b = refl
+along_goes (Route.Refused a) calls e b = refl
 
 -- a place is one of eight, and what goes everywhere is meant for every place
 abbrev pub Fitting : Lead → Type 0
@@ -161,20 +161,20 @@ Fitting (goes_nowhere n p) = Unit {0}
 
 module _ (calls : List Call) (ok : table_sound calls ≡ true) (place : ℕ) (s : List ℕ) where
   read_goes : (r : Read Event) → read events s ≡ r → (b : List ℕ) → goes (lead_by (keys_from 0 calls) place r) calls b ≡ when_read r calls place b
-  read_goes (taken e) h b = rw (sym (route_by_lem calls (sound-all calls ok) s place e h)) (along-goes (route_of calls place e) calls e b)
+  read_goes (taken e) h b = rw (sym (route_by_lem calls (sound_all calls ok) s place e h)) (along_goes (route_of calls place e) calls e b)
   read_goes (refused n p) h b = refl
 
   pub lead_goes : {l : Lead} → l ≡ lead_by (keys_from 0 calls) place (read events s) → (b : List ℕ) → goes l calls b ≡ console_of calls place s b
   unfolding console_of
   lead_goes is b = rw (is, ok) (read_goes (read events s) refl b)
 
-  along-fits : (e : Event) (r : Route) → route_of calls place e ≡ r → Fitting (along e r)
-  along-fits e (Route.To k) h = to_place calls place e h
-  along-fits e Route.Everywhere h = to_all calls place e h
-  along-fits e (Route.Refused a) h = tt
+  along_fits : (e : Event) (r : Route) → route_of calls place e ≡ r → Fitting (along e r)
+  along_fits e (Route.To k) h = to_place calls place e h
+  along_fits e Route.Everywhere h = to_all calls place e h
+  along_fits e (Route.Refused a) h = tt
 
   read_fits : (r : Read Event) → read events s ≡ r → Fitting (lead_by (keys_from 0 calls) place r)
-  read_fits (taken e) h = rw (sym (route_by_lem calls (sound-all calls ok) s place e h)) (along-fits e (route_of calls place e) refl)
+  read_fits (taken e) h = rw (sym (route_by_lem calls (sound_all calls ok) s place e h)) (along_fits e (route_of calls place e) refl)
   read_fits (refused n p) h = tt
 
   pub lead_fits : {l : Lead} → l ≡ lead_by (keys_from 0 calls) place (read events s) → Fitting l
@@ -216,8 +216,8 @@ eight calls n =
     ∙ ap (λ (z : List Call). call_at calls 6 ∷ z)
     (rest calls 7 (omega arith) ∙ ap (λ (z : List Call). call_at calls 7 ∷ z) (nothing_left calls 8 (omega arith)))))))))
 
-pub all-keys : (calls : List Call) (k : ℕ) {keys : List ℕ} → keys ≡ keys_first k calls → k ≡ 8 → length calls ≡ 8 → keys ≡ keys_from 0 calls
-all-keys calls k before all n = before ∙ ap (λ (m : ℕ). keys_first m calls) all ∙ sym (ap (keys_from 0) (eight calls n))
+pub all_keys : (calls : List Call) (k : ℕ) {keys : List ℕ} → keys ≡ keys_first k calls → k ≡ 8 → length calls ≡ 8 → keys ≡ keys_from 0 calls
+all_keys calls k before all n = before ∙ ap (λ (m : ℕ). keys_first m calls) all ∙ sym (ap (keys_from 0) (eight calls n))
 
 -- the lowest key of which p holds, where k of them have been passed
 module _ (p : ℕ → Bool) (keys : List ℕ) where
@@ -251,17 +251,17 @@ and-true : (b : Bool) → (b && true) ≡ b
 and-true true = refl
 and-true false = refl
 
-pub apart-eight : (a b c d e f g h : ℕ) →
+pub apart_eight : (a b c d e f g h : ℕ) →
     (not (eqb a b || (eqb a c || (eqb a d || (eqb a e || (eqb a f || (eqb a g || eqb a h))))))
     && (not (eqb b c || (eqb b d || (eqb b e || (eqb b f || (eqb b g || eqb b h)))))
     && (not (eqb c d || (eqb c e || (eqb c f || (eqb c g || eqb c h))))
     && (not (eqb d e || (eqb d f || (eqb d g || eqb d h)))
     && (not (eqb e f || (eqb e g || eqb e h)) && (not (eqb f g || eqb f h) && not (eqb g h)))))))
     ≡ apart_by (a ∷ b ∷ c ∷ d ∷ e ∷ f ∷ g ∷ h ∷ [])
-apart-eight a b c d e f g h = rw (or-false (eqb a h), or-false (eqb b h), or-false (eqb c h), or-false (eqb d h), or-false (eqb e h), or-false (eqb f h), or-false (eqb g h), and-true (not (eqb g h)))
+apart_eight a b c d e f g h = rw (or-false (eqb a h), or-false (eqb b h), or-false (eqb c h), or-false (eqb d h), or-false (eqb e h), or-false (eqb f h), or-false (eqb g h), and-true (not (eqb g h)))
 
-pub eight-keys : (keys : List ℕ) → length keys ≡ 8 → keys ≡ get_or keys 0 0 ∷ get_or keys 1 0 ∷ get_or keys 2 0 ∷ get_or keys 3 0 ∷ get_or keys 4 0 ∷ get_or keys 5 0 ∷ get_or keys 6 0 ∷ get_or keys 7 0 ∷ []
-eight-keys keys n =
+pub eight_keys : (keys : List ℕ) → length keys ≡ 8 → keys ≡ get_or keys 0 0 ∷ get_or keys 1 0 ∷ get_or keys 2 0 ∷ get_or keys 3 0 ∷ get_or keys 4 0 ∷ get_or keys 5 0 ∷ get_or keys 6 0 ∷ get_or keys 7 0 ∷ []
+eight_keys keys n =
     drop-cons keys 0 0 (omega arith)
     ∙ ap (λ (z : List ℕ). get_or keys 0 0 ∷ z)
     (drop-cons keys 1 0 (omega arith)

@@ -30,31 +30,31 @@ use Rattle.console.specs.Route.{console_number, aim_of, route_of}
 use Rattle.console.specs.Console.{ConsoleOutcome, placed, at_place, everywhere, writes_from, refuses_at, refuses, console_of}
 use Rattle.console.specs.Runs.{ConsoleTurn, console_outcome, console_next, console_run, lent_behind, went_to, went_in}
 use Rattle.console.specs.Demands as claims
-use Rattle.console.proofs.Placing.{bytes_at, Decides, decides, placed-refuses, placed-takes}
-use Rattle.console.proofs.Rooms.{written_most, break-room, resume-room}
+use Rattle.console.proofs.Placing.{bytes_at, Decides, decides, placed_refuses, placed_takes}
+use Rattle.console.proofs.Rooms.{written_most, break_room, resume_room}
 use Rattle.console.proofs.Routing.{to_place, to_none, every_route}
 use Rattle.console.proofs.Tables.{eight_of}
-use Rattle.console.proofs.Turns.{Everywhere, everywhere_does, none-takes, no_room, all_take, Came, came, unsound, unread, routes, routed-is, run-append, next-at, next-is}
-use Rattle.console.proofs.Twins.{Good, good_sound, good_fresh, good_run, fresh_at, idle-id}
+use Rattle.console.proofs.Turns.{Everywhere, everywhere_does, none_takes, no_room, all_take, Came, came, unsound, unread, routes, routed_is, run-append, next_at, next_is}
+use Rattle.console.proofs.Twins.{Good, good_sound, good_fresh, good_run, fresh_at, idle_id}
 use Rattle.console.proofs.Went as Went
 
 -- ---- the table
 
-pub table-sound : claims.TableSound
-table-sound ts = good_sound (console_run fresh_table ts) (good_run fresh_table ts good_fresh)
+pub table_sound_lem : claims.TableSound
+table_sound_lem ts = good_sound (console_run fresh_table ts) (good_run fresh_table ts good_fresh)
 
 -- ---- each place
 
-at-run : (calls : List Call) (ts : List ConsoleTurn) (k : ℕ) → k < 8 → call_at (console_run calls ts) k ≡ run (call_at calls k) (went_in k calls ts)
+at_run : (calls : List Call) (ts : List ConsoleTurn) (k : ℕ) → k < 8 → call_at (console_run calls ts) k ≡ run (call_at calls k) (went_in k calls ts)
 unfolding console_run went_in run
-at-run calls [] k lt = refl
-at-run calls (t ∷ ts) k lt =
-    at-run (console_next calls t) ts k lt
+at_run calls [] k lt = refl
+at_run calls (t ∷ ts) k lt =
+    at_run (console_next calls t) ts k lt
     ∙ ap (λ (c : Call). run c (went_in k (console_next calls t) ts)) (Went.record_at calls t k lt)
     ∙ sym (step-runs.run-append (call_at calls k) (went_to k calls t) (went_in k (console_next calls t) ts))
 
 pub records : claims.Records
-records ts k lt = at-run fresh_table ts k lt ∙ ap (λ (c : Call). run c (went_in k fresh_table ts)) (fresh_at k lt)
+records ts k lt = at_run fresh_table ts k lt ∙ ap (λ (c : Call). run c (went_in k fresh_table ts)) (fresh_at k lt)
 
 pub messages : claims.Messages
 messages = Went.messages
@@ -62,7 +62,7 @@ messages = Went.messages
 -- ---- demand 3, for each place
 
 pub told_at : claims.ToldAt
-told_at ts k lt = let w = step-demands.told-by-history (claims.turns_at k ts) in (w.0, w.1 ∙ ap (λ (c : Call). c.plane) (sym (records ts k lt)))
+told_at ts k lt = let w = step-demands.told_by_history (claims.turns_at k ts) in (w.0, w.1 ∙ ap (λ (c : Call). c.plane) (sym (records ts k lt)))
 
 pub went-append : (k : ℕ) (calls : List Call) (ts us : List ConsoleTurn) → went_in k calls (ts ++ us) ≡ went_in k calls ts ++ went_in k (console_run calls ts) us
 unfolding went_in console_run
@@ -94,17 +94,17 @@ module _ (ts us : List ConsoleTurn) (t : ConsoleTurn) (k : ℕ) (v : Turn) (went
 
   -- and the record that t leaves there
   last_record : (lt : k < 8) → call_at (console_run fresh_table (ts ++ t ∷ [])) k ≡ next (run fresh_call (went_in k fresh_table ts)) v
-  last_record lt = records (ts ++ t ∷ []) k lt ∙ ap (λ (z : List Turn). run fresh_call z) last-turns ∙ step-runs.run-last fresh_call (went_in k fresh_table ts) v
+  last_record lt = records (ts ++ t ∷ []) k lt ∙ ap (λ (z : List Turn). run fresh_call z) last_turns ∙ step-runs.run_last fresh_call (went_in k fresh_table ts) v
     where
-      last-turns : went_in k fresh_table (ts ++ t ∷ []) ≡ went_in k fresh_table ts ++ v ∷ []
-      last-turns =
+      last_turns : went_in k fresh_table (ts ++ t ∷ []) ≡ went_in k fresh_table ts ++ v ∷ []
+      last_turns =
           went-append k fresh_table ts (t ∷ [])
           ∙ ap (λ (z : List Turn). went_in k fresh_table ts ++ z) (went_one k (console_run fresh_table ts) t ∙ went)
 
 pub ended_at : claims.EndedAt
 ended_at ts t k v lt went is =
     last_record ts [] t k v went lt
-    ∙ sym (step-runs.run-last fresh_call (went_in k fresh_table ts) v)
+    ∙ sym (step-runs.run_last fresh_call (went_in k fresh_table ts) v)
     ∙ step-demands.ended (went_in k fresh_table ts) v (ap (λ (c : Call). ends c v) (sym (records ts k lt)) ∙ is)
 
 pub no_other_end_at : claims.NoOtherEndAt
@@ -125,7 +125,7 @@ no_other_end_at ts t k lt busy idle = by (Went.at_most_one (claims.after ts) t k
       went,
       ap (λ (c : Call). ends c v) (records ts k lt)
           ∙ step-demands.no_other_end (went_in k fresh_table ts) v (ap (λ (c : Call). is_idle c) (sym (records ts k lt)) ∙ busy)
-          (ap (λ (c : Call). is_idle c) (step-runs.run-last fresh_call (went_in k fresh_table ts) v ∙ sym (last_record ts [] t k v went lt)) ∙ idle),
+          (ap (λ (c : Call). is_idle c) (step-runs.run_last fresh_call (went_in k fresh_table ts) v ∙ sym (last_record ts [] t k v went lt)) ∙ idle),
     )
 
 module _ (ts us : List ConsoleTurn) (t : ConsoleTurn) (k : ℕ) (v : Turn) (lt : k < 8) (went : went_to k (claims.after ts) t ≡ v ∷ [])
@@ -137,36 +137,36 @@ module _ (ts us : List ConsoleTurn) (t : ConsoleTurn) (k : ℕ) (v : Turn) (lt :
   abbrev later : List Turn
   later = went_in k (claims.after (ts ++ t ∷ [])) us
 
-  step-broke : taken_by (run fresh_call before) v ≡ some Event.Break
-  step-broke = ap (λ (c : Call). taken_by c v) (sym (records ts k lt)) ∙ broke
+  step_broke : taken_by (run fresh_call before) v ≡ some Event.Break
+  step_broke = ap (λ (c : Call). taken_by c v) (sym (records ts k lt)) ∙ broke
 
-  step-calm : quiet (run fresh_call before).id (next (run fresh_call before) v) later ≡ true
-  step-calm =
+  step_calm : quiet (run fresh_call before).id (next (run fresh_call before) v) later ≡ true
+  step_calm =
       ap (λ (c : Call). quiet c.id (next (run fresh_call before) v) later) (sym (records ts k lt))
       ∙ ap (λ (c : Call). quiet (claims.at k ts).id c later) (sym (last_record ts us t k v went lt))
       ∙ calm
 
-  stays-off : told (claims.turns_at k (ts ++ t ∷ us)) ≡ 4
-  stays-off = ap (λ (z : List Turn). told z) (split ts us t k v went) ∙ step-demands.cut before later v step-broke step-calm
+  stays_off : told (claims.turns_at k (ts ++ t ∷ us)) ≡ 4
+  stays_off = ap (λ (z : List Turn). told z) (split ts us t k v went) ∙ step-demands.cut before later v step_broke step_calm
 
   module _ (w : ConsoleTurn) (x : Turn) (i g r o : ℕ) (Went-then : went_to k (claims.after (ts ++ t ∷ us)) w ≡ x ∷ [])
       (restores : taken_by (claims.at k (ts ++ t ∷ us)) x ≡ some (Event.DCallRestore i g r o)) where
-    now-is : claims.at k (ts ++ t ∷ us) ≡ run fresh_call (before ++ v ∷ later)
-    now-is = records (ts ++ t ∷ us) k lt ∙ ap (λ (z : List Turn). run fresh_call z) (split ts us t k v went)
+    now_is : claims.at k (ts ++ t ∷ us) ≡ run fresh_call (before ++ v ∷ later)
+    now_is = records (ts ++ t ∷ us) k lt ∙ ap (λ (z : List Turn). run fresh_call z) (split ts us t k v went)
 
     then_is : claims.at k (ts ++ t ∷ us ++ w ∷ []) ≡ run fresh_call (before ++ v ∷ later ++ x ∷ [])
     then_is =
         last_record (ts ++ t ∷ us) [] w k x Went-then lt
         ∙ ap (λ (z : List Turn). next (run fresh_call z) x) (split ts us t k v went)
-        ∙ sym (step-runs.run-last fresh_call (before ++ v ∷ later) x)
+        ∙ sym (step-runs.run_last fresh_call (before ++ v ∷ later) x)
 
     restored_record : Restoration (claims.at k ts) (claims.at k (ts ++ t ∷ us ++ w ∷ [])) i r o
     restored_record =
-        let d = step-demands.restored before later v x i g r o step-broke step-calm (ap (λ (c : Call). taken_by c x) (sym now-is) ∙ restores) in
+        let d = step-demands.restored before later v x i g r o step_broke step_calm (ap (λ (c : Call). taken_by c x) (sym now_is) ∙ restores) in
         rw (records ts k lt, then_is) d
 
 pub cut_at : claims.CutAt
-cut_at ts us t k v lt went broke calm = stays-off ts us t k v lt went broke calm
+cut_at ts us t k v lt went broke calm = stays_off ts us t k v lt went broke calm
 
 pub restored_at : claims.RestoredAt
 restored_at ts us t w k v x i g r o lt went broke calm Went-then restores =
@@ -175,7 +175,7 @@ restored_at ts us t w k v x i g r o lt went broke calm Went-then restores =
 -- ---- the table, in the client's words
 
 outside : (c : Call) (b : Bool) → is_idle c ≡ b → sound c ≡ true → (c.id ≡ 0 → ⊥) → is_idle c ≡ false
-outside c true idle ok has = absurd (has (idle-id c ok idle))
+outside c true idle ok has = absurd (has (idle_id c ok idle))
 outside c false idle ok has = idle
 
 pub good : (ts : List ConsoleTurn) → Good (claims.after ts)
@@ -195,25 +195,25 @@ one_awaits ts j k jl kl d p q z y = (good ts).single j k jl kl d p q (z ∙ sym 
 
 -- a refusal that is not 1, has a place only with 4 and gives everything back; or 0, which has no place
 data Answers (calls : List Call) (b : List ℕ) (o : ConsoleOutcome) : Type 0 where
-  refused-with : (n p : ℕ) → 2 ≤ n → ((n ≡ 4 → ⊥) → p ≡ 0) → o ≡ refuses_at n p calls b → Answers calls b o
+  refused_with : (n p : ℕ) → 2 ≤ n → ((n ≡ 4 → ⊥) → p ≡ 0) → o ≡ refuses_at n p calls b → Answers calls b o
   took : o.answer ≡ 0 → o.place ≡ 0 → Answers calls b o
 
-place-answers : (calls : List Call) (j : ℕ) (e : Event) (b : List ℕ) → Answers calls b (at_place j calls e b)
+place_answers : (calls : List Call) (j : ℕ) (e : Event) (b : List ℕ) → Answers calls b (at_place j calls e b)
 unfolding at_place
-place-answers calls j e b = by (decides (call_at calls j) e (drop 5 b))
+place_answers calls j e b = by (decides (call_at calls j) e (drop 5 b))
   where
     by : Decides (call_at calls j) e (drop 5 b) → Answers calls b (at_place j calls e b)
     by (Decides.refuses n z d) =
-        refused-with n 0 (omega arith) (λ x. refl)
-        (ap (λ (w : Outcome). stored calls j w) (sym (placed-refuses j (call_at calls j) e b n z d))
+        refused_with n 0 (omega arith) (λ x. refl)
+        (ap (λ (w : Outcome). stored calls j w) (sym (placed_refuses j (call_at calls j) e b n z d))
         ∙ ap (λ (z : List Call). refuses n z b) (set-get_or calls j no_call))
     by (Decides.takes w f d) =
-        took (ap (λ (w : Outcome). w.answer) (sym (placed-takes j (call_at calls j) e b d))) (ap (λ (w : Outcome). w.place) (sym (placed-takes j (call_at calls j) e b d)))
+        took (ap (λ (w : Outcome). w.answer) (sym (placed_takes j (call_at calls j) e b d))) (ap (λ (w : Outcome). w.place) (sym (placed_takes j (call_at calls j) e b d)))
 
-all-answers : (calls : List Call) (e : Event) (b : List ℕ) → Everywhere calls e b → Answers calls b (everywhere calls e b)
-all-answers calls e b (none-takes s d) = refused-with 6 0 (lit≤ tt) (λ x. refl) d
-all-answers calls e b (no_room s f d) = refused-with 7 0 (lit≤ tt) (λ x. refl) d
-all-answers calls e b (all_take s f d) = took (ap (λ (o : ConsoleOutcome). o.answer) d) (ap (λ (o : ConsoleOutcome). o.place) d)
+all_answers : (calls : List Call) (e : Event) (b : List ℕ) → Everywhere calls e b → Answers calls b (everywhere calls e b)
+all_answers calls e b (none_takes s d) = refused_with 6 0 (lit≤ tt) (λ x. refl) d
+all_answers calls e b (no_room s f d) = refused_with 7 0 (lit≤ tt) (λ x. refl) d
+all_answers calls e b (all_take s f d) = took (ap (λ (o : ConsoleOutcome). o.answer) d) (ap (λ (o : ConsoleOutcome). o.place) d)
 
 -- a reader refuses with 2 or more, and only 4 has a place
 abbrev Numbered : {A : Type 0} → Read A → Type 0
@@ -248,32 +248,32 @@ numbered t s =
     (place_numbered (sized (find t n (length s) t.kinds)) _
     (λ k. place_numbered (body_of (t.row_of k).letters s) _ (λ vs. cond_numbered (t.agrees (t.value_of k vs)) (t.value_of k vs) t.clash)))))
 
-reader-number : (n p : ℕ) (s : List ℕ) → read events s ≡ refused n p → (2 ≤ n) × ((n ≡ 4 → ⊥) → p ≡ 0)
-reader-number n p s h = rw h at (numbered events s)
+reader_number : (n p : ℕ) (s : List ℕ) → read events s ≡ refused n p → (2 ≤ n) × ((n ≡ 4 → ⊥) → p ≡ 0)
+reader_number n p s h = rw h at (numbered events s)
 
 answers : (calls : List Call) (t : ConsoleTurn) → table_sound calls ≡ true → Answers calls t.buffer (console_outcome calls t)
 answers calls t ok = by (came calls t)
   where
     by : Came calls t → Answers calls t.buffer (console_outcome calls t)
     by (unsound s o) = absurd (let z : ◌≡◌ {A = ℕ} 0 1 = cc in omega arith)
-    by (unread n p s h o) = let w = reader-number n p t.event h in refused-with n p w.0 w.1 o
-    by (routes e (Route.To j) s h r o) = rw o (place-answers calls j e t.buffer)
-    by (routes e Route.Everywhere s h r o) = rw o (all-answers calls e t.buffer (everywhere_does calls e t.buffer))
-    by (routes e (Route.Refused a) s h r o) = refused-with (console_number a) 0 (let f = to_none calls t.place e r in omega arith) (λ x. refl) o
+    by (unread n p s h o) = let w = reader_number n p t.event h in refused_with n p w.0 w.1 o
+    by (routes e (Route.To j) s h r o) = rw o (place_answers calls j e t.buffer)
+    by (routes e Route.Everywhere s h r o) = rw o (all_answers calls e t.buffer (everywhere_does calls e t.buffer))
+    by (routes e (Route.Refused a) s h r o) = refused_with (console_number a) 0 (let f = to_none calls t.place e r in omega arith) (λ x. refl) o
 
 pub never_unsound : claims.NeverUnsound
-never_unsound ts t is = by (answers (claims.after ts) t (table-sound ts))
+never_unsound ts t is = by (answers (claims.after ts) t (table_sound_lem ts))
   where
     by : Answers (claims.after ts) t.buffer (console_outcome (claims.after ts) t) → ⊥
-    by (refused-with n p l z o) = let m = sym (ap (λ (w : ConsoleOutcome). w.answer) o) ∙ is in omega arith
+    by (refused_with n p l z o) = let m = sym (ap (λ (w : ConsoleOutcome). w.answer) o) ∙ is in omega arith
     by (took z p) = let m = sym z ∙ is in omega arith
 
-pub placed-by-reader : claims.Placed
+pub placed_by_reader : claims.Placed
 unfolding console_outcome console_of
-placed-by-reader calls t n p ok reads = rw (ok, reads)
+placed_by_reader calls t n p ok reads = rw (ok, reads)
 
-pub refuses-whole : claims.Refused
-refuses-whole calls t n is other = by (came calls t)
+pub refuses_whole : claims.Refused
+refuses_whole calls t n is other = by (came calls t)
   where
     same : {m p : ℕ} → console_outcome calls t ≡ refuses_at m p calls t.buffer → console_outcome calls t ≡ refuses_at n (console_outcome calls t).place calls t.buffer
     same o =
@@ -281,7 +281,7 @@ refuses-whole calls t n is other = by (came calls t)
         ∙ (λ i. refuses_at ((sym (ap (λ (w : ConsoleOutcome). w.answer) o) ∙ is) i) (sym (ap (λ (w : ConsoleOutcome). w.place) o) i) calls t.buffer)
 
     or_took : Answers calls t.buffer (console_outcome calls t) → console_outcome calls t ≡ refuses_at n (console_outcome calls t).place calls t.buffer
-    or_took (refused-with m p l z o) = same o
+    or_took (refused_with m p l z o) = same o
     or_took (took z p) = absurd (other (sym is ∙ z))
 
     by : Came calls t → console_outcome calls t ≡ refuses_at n (console_outcome calls t).place calls t.buffer
@@ -293,7 +293,7 @@ pub place_only_with_four : claims.PlaceOnlyWithFour
 place_only_with_four calls t other = by (came calls t)
   where
     no_place : Answers calls t.buffer (console_outcome calls t) → (console_outcome calls t).place ≡ 0
-    no_place (refused-with n p l z o) =
+    no_place (refused_with n p l z o) =
         ap (λ (w : ConsoleOutcome). w.place) o ∙ z (λ four. other (ap (λ (w : ConsoleOutcome). w.answer) o ∙ four))
     no_place (took z p) = p
 
@@ -304,9 +304,9 @@ place_only_with_four calls t other = by (came calls t)
 
 -- ---- who is reached
 
-pub others-stay : claims.OthersStay
+pub others_stay : claims.OthersStay
 unfolding at_place
-others-stay calls t e j k reads to d = by (came calls t)
+others_stay calls t e j k reads to d = by (came calls t)
   where
     still : console_next calls t ≡ calls → call_at (console_next calls t) k ≡ call_at calls k
     still same = ap (λ (z : List Call). call_at z k) same
@@ -315,34 +315,34 @@ others-stay calls t e j k reads to d = by (came calls t)
     same_route {f} h r = let one : f ≡ e = cc in sym r ∙ ap (λ (x : Event). route_of calls t.place x) one ∙ to
 
     by : Came calls t → call_at (console_next calls t) k ≡ call_at calls k
-    by (unsound s o) = still (next-is calls t o)
-    by (unread n p s h o) = still (next-is calls t o)
+    by (unsound s o) = still (next_is calls t o)
+    by (unread n p s h o) = still (next_is calls t o)
     by (routes f (Route.To i) s h r o) =
         let here : i ≡ j = cc (same_route h r) in
-        ap (λ (z : List Call). call_at z k) (next-is calls t o)
+        ap (λ (z : List Call). call_at z k) (next_is calls t o)
         ∙ get_or-set_other calls i k (placed i (call_at calls i) f t.buffer).call no_call (λ q. d (q ∙ here))
     by (routes f Route.Everywhere s h r o) = absurd (let z : ◌≡◌ {A = ℕ} 0 1 = cc (same_route h r) in omega arith)
-    by (routes f (Route.Refused a) s h r o) = still (next-is calls t o)
+    by (routes f (Route.Refused a) s h r o) = still (next_is calls t o)
 
 pub all_or_none : claims.AllOrNone
 all_or_none calls t e ok reads every = by (everywhere_does calls e t.buffer)
   where
     is : console_outcome calls t ≡ everywhere calls e t.buffer
-    is = routed-is calls t ok reads (every_route calls t.place e every)
+    is = routed_is calls t ok reads (every_route calls t.place e every)
 
     by : Everywhere calls e t.buffer → claims.Reached calls t e
-    by (none-takes s d) = claims.by_nobody s (is ∙ d)
+    by (none_takes s d) = claims.by_nobody s (is ∙ d)
     by (no_room s r d) = claims.none_for_room s (leb-false (length (bytes_of (writes_from 0 calls e))) (length t.buffer) r) (is ∙ d)
     by (all_take s r d) =
         claims.all_take s (ap (λ (o : ConsoleOutcome). o.answer) (is ∙ d))
         (λ k lt.
-        let n = eight_of calls ok in ap (λ (z : List Call). call_at z k) (next-is calls t (is ∙ d)) ∙ next-at calls e k (omega arith))
+        let n = eight_of calls ok in ap (λ (z : List Call). call_at z k) (next_is calls t (is ∙ d)) ∙ next_at calls e k (omega arith))
 
 -- ---- how much room to lend
 
-all-count : (calls : List Call) (t : ConsoleTurn) (e : Event) (m : ℕ) → read events t.event ≡ taken e → aim_of e ≡ Aim.Every
+all_count : (calls : List Call) (t : ConsoleTurn) (e : Event) (m : ℕ) → read events t.event ≡ taken e → aim_of e ≡ Aim.Every
     → length (bytes_of (writes_from 0 calls e)) ≤ m → (console_outcome calls t).count ≤ m
-all-count calls t e m reads every most = by (came calls t)
+all_count calls t e m reads every most = by (came calls t)
   where
     none : {n p : ℕ} → console_outcome calls t ≡ refuses_at n p calls t.buffer → (console_outcome calls t).count ≤ m
     none o = rw o (omega arith)
@@ -351,7 +351,7 @@ all-count calls t e m reads every most = by (came calls t)
     same_route {f} h r = let one : f ≡ e = cc in sym r ∙ ap (λ (x : Event). route_of calls t.place x) one ∙ every_route calls t.place e every
 
     all : (f : Event) → f ≡ e → console_outcome calls t ≡ everywhere calls f t.buffer → Everywhere calls f t.buffer → (console_outcome calls t).count ≤ m
-    all f one o (none-takes s d) = none (o ∙ d)
+    all f one o (none_takes s d) = none (o ∙ d)
     all f one o (no_room s r d) = none (o ∙ d)
     all f one o (all_take s r d) = rw (o ∙ d, one) most
 
@@ -362,11 +362,11 @@ all-count calls t e m reads every most = by (came calls t)
     by (routes f Route.Everywhere s h r o) = all f (cc) o (everywhere_does calls f t.buffer)
     by (routes f (Route.Refused a) s h r o) = none o
 
-pub break-count : claims.BreakRoom
-break-count ts t reads = all-count (claims.after ts) t Event.Break 128 reads refl (break-room (claims.after ts) (good ts).eight (good ts).kept)
+pub break_count : claims.BreakRoom
+break_count ts t reads = all_count (claims.after ts) t Event.Break 128 reads refl (break_room (claims.after ts) (good ts).eight (good ts).kept)
 
-pub resume-count : claims.ResumeRoom
-resume-count ts t reads = all-count (claims.after ts) t Event.Resume 184 reads refl (resume-room (claims.after ts) (good ts).eight (good ts).kept)
+pub resume_count : claims.ResumeRoom
+resume_count ts t reads = all_count (claims.after ts) t Event.Resume 184 reads refl (resume_room (claims.after ts) (good ts).eight (good ts).kept)
 
 -- what one place writes is what its step counts, with five bytes in front
 place_most : (ts : List ConsoleTurn) (t : ConsoleTurn) (i : ℕ) (e : Event) → i < 8 → read events t.event ≡ taken e
@@ -374,18 +374,18 @@ place_most : (ts : List ConsoleTurn) (t : ConsoleTurn) (i : ℕ) (e : Event) →
 place_most ts t i e lt reads = by (decides (claims.at i ts) e (drop 5 t.buffer))
   where
     by : Decides (claims.at i ts) e (drop 5 t.buffer) → (placed i (claims.at i ts) e t.buffer).count ≤ 37
-    by (Decides.refuses n z d) = rw (← placed-refuses i (claims.at i ts) e t.buffer n z d) (omega arith)
+    by (Decides.refuses n z d) = rw (← placed_refuses i (claims.at i ts) e t.buffer n z d) (omega arith)
     by (Decides.takes w f d) =
         let v = lent_behind 0 t in
         let counts : (outcome (claims.at i ts) v).count ≡ length (bytes_at (claims.at i ts) e) =
-        ap (λ (o : Outcome). o.count) (Went.step-decided (claims.at i ts) e v ((good ts).kept i lt).meets reads ∙ d) in
+        ap (λ (o : Outcome). o.count) (Went.step_decided (claims.at i ts) e v ((good ts).kept i lt).meets reads ∙ d) in
         let most : length (bytes_at (claims.at i ts) e) ≤ 32 =
         rw (← counts, records ts i lt) (step-demands.at_most_32 (claims.turns_at i ts) v) in
-        rw (← placed-takes i (claims.at i ts) e t.buffer d) (written_most i (claims.at i ts) e 32 w most)
+        rw (← placed_takes i (claims.at i ts) e t.buffer d) (written_most i (claims.at i ts) e 32 w most)
 
-pub place-count : claims.PlaceRoom
+pub place_count : claims.PlaceRoom
 unfolding at_place
-place-count ts t e j reads to = by (came (claims.after ts) t)
+place_count ts t e j reads to = by (came (claims.after ts) t)
   where
     none : {n p : ℕ} → console_outcome (claims.after ts) t ≡ refuses_at n p (claims.after ts) t.buffer → (console_outcome (claims.after ts) t).count ≤ 37
     none o = rw o (omega arith)

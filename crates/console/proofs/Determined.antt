@@ -120,10 +120,10 @@ same_more : (k : ℕ) (c : Call) (e : Event) (p : SoFar) (own : List ℕ) (u₁ 
     → (u₁ ≡ u₂) × ((s₁ ≡ s₂) × (b₁ ≡ b₂))
 same_more k c e p own u₁ u₂ s₁ s₂ b₁ b₂ m n = (m.last ∙ sym n.last, (m.behind ∙ sym n.behind, m.bytes ∙ sym n.bytes))
 
-pub step-at : (calls : List Call) (k : ℕ) (e : Event) (p : SoFar) (own : List ℕ) (r₁ r₂ : SoFar) (t₁ t₂ : List Call) (b₁ b₂ : List ℕ)
+pub step_at : (calls : List Call) (k : ℕ) (e : Event) (p : SoFar) (own : List ℕ) (r₁ r₂ : SoFar) (t₁ t₂ : List Call) (b₁ b₂ : List ℕ)
     → (t₁ ≡ set calls k (next_of e (call_at calls k))) × OneMore r₁.upto r₁.size b₁ k (call_at calls k) e p own
     → (t₂ ≡ set calls k (next_of e (call_at calls k))) × OneMore r₂.upto r₂.size b₂ k (call_at calls k) e p own → (r₁ ≡ r₂) × ((t₁ ≡ t₂) × (b₁ ≡ b₂))
-step-at calls k e p own r₁ r₂ t₁ t₂ b₁ b₂ e₁ e₂ =
+step_at calls k e p own r₁ r₂ t₁ t₂ b₁ b₂ e₁ e₂ =
     let m = same_more k (call_at calls k) e p own r₁.upto r₂.upto r₁.size r₂.size b₁ b₂ e₁.1 e₂.1 in
     (λ i. record { upto = m.0 i; size = m.1.0 i }, (e₁.0 ∙ sym e₂.0, m.1.1))
 
@@ -156,8 +156,8 @@ console_step κs a r₁ r₂ e₁ e₂ p q = same_console _ r₁ r₂ _ _ p q
 pub everywhere : (κs : _) (a : _) (r₁ r₂ : _) (e₁ e₂ : _) → everywhere-promise.Learnt κs a r₁ e₁ → everywhere-promise.Learnt κs a r₂ e₂ → (r₁ ≡ r₂) × (e₁.1.1.0.now ≡ e₂.1.1.0.now)
 everywhere κs a r₁ r₂ e₁ e₂ p q = same_console _ r₁ r₂ _ _ p q
 
-pub place-step : (κs : _) (a : _) (r₁ r₂ : _) (e₁ e₂ : _) → place-step-promise.Learnt κs a r₁ e₁ → place-step-promise.Learnt κs a r₂ e₂ → (r₁ ≡ r₂) × (e₁.1.1.1.0.now ≡ e₂.1.1.1.0.now)
-place-step κs a r₁ r₂ e₁ e₂ p q = step-determined.step _ r₁ r₂ _ _ p q
+pub place_step : (κs : _) (a : _) (r₁ r₂ : _) (e₁ e₂ : _) → place-step-promise.Learnt κs a r₁ e₁ → place-step-promise.Learnt κs a r₂ e₂ → (r₁ ≡ r₂) × (e₁.1.1.1.0.now ≡ e₂.1.1.1.0.now)
+place_step κs a r₁ r₂ e₁ e₂ p q = step-determined.step _ r₁ r₂ _ _ p q
 
 pub turn : (κs : _) (a : _) (r₁ r₂ : _) (e₁ e₂ : _) → turn-promise.Learnt κs a r₁ e₁ → turn-promise.Learnt κs a r₂ e₂ → (r₁ ≡ r₂) × (e₁.1.1.1.1.0.now ≡ e₂.1.1.1.1.0.now)
 turn κs a r₁ r₂ e₁ e₂ p q =
@@ -189,11 +189,11 @@ apart_by_lem κs a r₁ r₂ e₁ e₂ p q = p ∙ sym q
 pub held_by_lem : (κs : _) (a : _) (r₁ r₂ : _) (e₁ e₂ : _) → held-by-promise.Learnt κs a r₁ e₁ → held-by-promise.Learnt κs a r₂ e₂ → r₁ ≡ r₂
 held_by_lem κs a r₁ r₂ e₁ e₂ p q = p ∙ sym q
 
-pub idle-by : (κs : _) (a : _) (r₁ r₂ : _) (e₁ e₂ : _) → idle-by-promise.Learnt κs a r₁ e₁ → idle-by-promise.Learnt κs a r₂ e₂ → r₁ ≡ r₂
-idle-by κs a r₁ r₂ e₁ e₂ p q = p ∙ sym q
+pub idle_by_lem : (κs : _) (a : _) (r₁ r₂ : _) (e₁ e₂ : _) → idle-by-promise.Learnt κs a r₁ e₁ → idle-by-promise.Learnt κs a r₂ e₂ → r₁ ≡ r₂
+idle_by_lem κs a r₁ r₂ e₁ e₂ p q = p ∙ sym q
 
-pub table-sound : (κs : _) (a : _) (r₁ r₂ : _) (e₁ e₂ : _) → table-sound-promise.Learnt κs a r₁ e₁ → table-sound-promise.Learnt κs a r₂ e₂ → r₁ ≡ r₂
-table-sound κs a r₁ r₂ e₁ e₂ p q = p ∙ sym q
+pub table_sound_lem : (κs : _) (a : _) (r₁ r₂ : _) (e₁ e₂ : _) → table-sound-promise.Learnt κs a r₁ e₁ → table-sound-promise.Learnt κs a r₂ e₂ → r₁ ≡ r₂
+table_sound_lem κs a r₁ r₂ e₁ e₂ p q = p ∙ sym q
 
 pub lead : (κs : _) (a : _) (r₁ r₂ : _) (e₁ e₂ : _) → lead-promise.Learnt κs a r₁ e₁ → lead-promise.Learnt κs a r₂ e₂ → r₁ ≡ r₂
 lead κs a r₁ r₂ e₁ e₂ p q = same_lead r₁ r₂ (p ∙ sym q)

@@ -19,14 +19,14 @@ use Rattle.callcontrol.specs.declared.call.Call.{Call}
 use Rattle.callcontrol.specs.Rows.{row_for}
 use Rattle.callcontrol.specs.Writing.{messages_in, bytes_of}
 use Rattle.callcontrol.specs.Step.{Outcome, refusal, other_call, over_transmission, decided}
-use Rattle.callcontrol.proofs.Laying.{messages-small, size-append}
+use Rattle.callcontrol.proofs.Laying.{messages_small, size-append}
 use Rattle.console.specs.declared.route.Aim.{Aim}
 use Rattle.console.specs.declared.console.SoFar.{SoFar}
 use Rattle.console.specs.declared.console.AllStepped.{AllStepped}
 use Rattle.console.specs.Table.{no_call, call_at, some?}
 use Rattle.console.specs.Route.{aim_of}
 use Rattle.console.specs.Console.{behind, writes, placed, takes, part, writes_from, next_of, all_next, headed, OneMore, LaidAll, ConsoleOutcome, everywhere, refuses}
-use Rattle.console.proofs.Placing.{bytes_at, taking, place-size, no_bytes, row_carried, row-missing, carried-whole, placed-refuses, placed-takes, part-whole, put_whole, stored-part}
+use Rattle.console.proofs.Placing.{bytes_at, taking, place_size, no_bytes, row_carried, row_missing, carried_whole, placed_refuses, placed_takes, part_whole, put_whole, stored_part}
 
 -- ---- one place more
 
@@ -46,9 +46,9 @@ next-append : (xs ys : List Call) (e : Event) → all_next (xs ++ ys) e ≡ all_
 next-append [] ys e = refl
 next-append (c ∷ xs) ys e = ap (λ (z : List Call). next_of e c ∷ z) (next-append xs ys e)
 
-pub next-length : (xs : List Call) (e : Event) → length (all_next xs e) ≡ length xs
-next-length [] e = refl
-next-length (c ∷ xs) e = ap suc (next-length xs e)
+pub next_length : (xs : List Call) (e : Event) → length (all_next xs e) ≡ length xs
+next_length [] e = refl
+next_length (c ∷ xs) e = ap suc (next_length xs e)
 
 some-append : (p : Call → Bool) (xs : List Call) (c : Call) → some? p (xs ++ c ∷ []) ≡ (p c || some? p xs)
 some-append p [] c = refl
@@ -93,67 +93,67 @@ headed_few n h true = omega arith
 headed_few n h false = omega arith
 
 module _ (c : Call) (e : Event) where
-  pub part-size : (k : ℕ) (t : Bool) → takes e c ≡ t → length (bytes_of (part k c e)) ≡ cond t (headed (length (bytes_at c e))) 0
+  pub part_size : (k : ℕ) (t : Bool) → takes e c ≡ t → length (bytes_of (part k c e)) ≡ cond t (headed (length (bytes_at c e))) 0
   unfolding bytes_of
-  part-size k true t = ap (λ (x : Bool). length (bytes_of (cond x (writes k c e) []))) t ∙ by_bytes (messages_in (row_for c e))
+  part_size k true t = ap (λ (x : Bool). length (bytes_of (cond x (writes k c e) []))) t ∙ by_bytes (messages_in (row_for c e))
     where
       by_bytes : (ms : List Message) → length (bytes_of (behind k ms)) ≡ headed (length (bytes_of ms))
       by_bytes [] = refl
       by_bytes (m ∷ ms) =
           let some : length (bytes_of (m ∷ ms)) ≡ 0 → ⊥ = λ z. let w : ◌≡◌ {A = ℕ} 0 1 = cc (no_bytes (m ∷ ms) z) in omega arith in
-          length-append (message_bytes (Message.Place k)) (bytes_of (m ∷ ms)) ∙ ap (λ (n : ℕ). n + length (bytes_of (m ∷ ms))) (place-size k)
+          length-append (message_bytes (Message.Place k)) (bytes_of (m ∷ ms)) ∙ ap (λ (n : ℕ). n + length (bytes_of (m ∷ ms))) (place_size k)
           ∙ sym (ap (λ (x : Bool). cond x 0 (5 + length (bytes_of (m ∷ ms)))) (ne_eqb _ _ some))
-  part-size k false t = ap (λ (x : Bool). length (bytes_of (cond x (writes k c e) []))) t
+  part_size k false t = ap (λ (x : Bool). length (bytes_of (cond x (writes k c e) []))) t
 
 pub part_few : (k : ℕ) (c : Call) (e : Event) (t : Bool) → takes e c ≡ t → length (bytes_of (part k c e)) ≤ 127
-part_few k c e true t = rw (part-size c e k true t) (headed_few (length (bytes_at c e)) (messages-small (row_for c e)) (eqb (length (bytes_at c e)) 0))
-part_few k c e false t = rw (part-size c e k false t) (omega arith)
+part_few k c e true t = rw (part_size c e k true t) (headed_few (length (bytes_at c e)) (messages_small (row_for c e)) (eqb (length (bytes_at c e)) 0))
+part_few k c e false t = rw (part_size c e k false t) (omega arith)
 
 -- ---- laying
 
 -- only BREAK and RESUME are for every place
-pub every-is : (P : Event → Type 0) → P Event.Break → P Event.Resume → (e : Event) → aim_of e ≡ Aim.Every → P e
-every-is P b r (Event.SetupRequest a d q s) h = let x : ◌≡◌ {A = ℕ} 0 1 = cc h in absurd (omega arith)
-every-is P b r Event.SetupResponse h = let x : ◌≡◌ {A = ℕ} 0 1 = cc h in absurd (omega arith)
-every-is P b r Event.ReleaseRequest h = let x : ◌≡◌ {A = ℕ} 0 1 = cc h in absurd (omega arith)
-every-is P b r (Event.TxRequest k) h = let x : ◌≡◌ {A = ℕ} 0 1 = cc h in absurd (omega arith)
-every-is P b r (Event.DCallProceeding i) h = let x : ◌≡◌ {A = ℕ} 0 1 = cc h in absurd (omega arith)
-every-is P b r (Event.DAlert i) h = let x : ◌≡◌ {A = ℕ} 0 1 = cc h in absurd (omega arith)
-every-is P b r (Event.DConnect i g d o s) h = let x : ◌≡◌ {A = ℕ} 0 1 = cc h in absurd (omega arith)
-every-is P b r (Event.DConnectAcknowledge i g o) h = let x : ◌≡◌ {A = ℕ} 0 1 = cc h in absurd (omega arith)
-every-is P b r (Event.DSetup i a d) h = let x : ◌≡◌ {A = ℕ} 0 1 = cc h in absurd (omega arith)
-every-is P b r (Event.DInfo i u o d s) h = let x : ◌≡◌ {A = ℕ} 0 1 = cc h in absurd (omega arith)
-every-is P b r (Event.DTxGranted i g) h = let x : ◌≡◌ {A = ℕ} 0 1 = cc h in absurd (omega arith)
-every-is P b r (Event.DTxCeased i) h = let x : ◌≡◌ {A = ℕ} 0 1 = cc h in absurd (omega arith)
-every-is P b r (Event.DTxInterrupt i g) h = let x : ◌≡◌ {A = ℕ} 0 1 = cc h in absurd (omega arith)
-every-is P b r (Event.DTxWait i) h = let x : ◌≡◌ {A = ℕ} 0 1 = cc h in absurd (omega arith)
-every-is P b r (Event.DTxContinue i k) h = let x : ◌≡◌ {A = ℕ} 0 1 = cc h in absurd (omega arith)
-every-is P b r (Event.DCallRestore i g s o) h = let x : ◌≡◌ {A = ℕ} 0 1 = cc h in absurd (omega arith)
-every-is P b r (Event.DDisconnect i) h = let x : ◌≡◌ {A = ℕ} 0 1 = cc h in absurd (omega arith)
-every-is P b r (Event.DRelease i) h = let x : ◌≡◌ {A = ℕ} 0 1 = cc h in absurd (omega arith)
-every-is P b r Event.ReportSent h = let x : ◌≡◌ {A = ℕ} 0 1 = cc h in absurd (omega arith)
-every-is P b r Event.ReportFailed h = let x : ◌≡◌ {A = ℕ} 0 1 = cc h in absurd (omega arith)
-every-is P b r Event.Break h = b
-every-is P b r Event.Resume h = r
-every-is P b r (Event.Expiry n) h = let x : ◌≡◌ {A = ℕ} 0 1 = cc h in absurd (omega arith)
+pub every_is : (P : Event → Type 0) → P Event.Break → P Event.Resume → (e : Event) → aim_of e ≡ Aim.Every → P e
+every_is P b r (Event.SetupRequest a d q s) h = let x : ◌≡◌ {A = ℕ} 0 1 = cc h in absurd (omega arith)
+every_is P b r Event.SetupResponse h = let x : ◌≡◌ {A = ℕ} 0 1 = cc h in absurd (omega arith)
+every_is P b r Event.ReleaseRequest h = let x : ◌≡◌ {A = ℕ} 0 1 = cc h in absurd (omega arith)
+every_is P b r (Event.TxRequest k) h = let x : ◌≡◌ {A = ℕ} 0 1 = cc h in absurd (omega arith)
+every_is P b r (Event.DCallProceeding i) h = let x : ◌≡◌ {A = ℕ} 0 1 = cc h in absurd (omega arith)
+every_is P b r (Event.DAlert i) h = let x : ◌≡◌ {A = ℕ} 0 1 = cc h in absurd (omega arith)
+every_is P b r (Event.DConnect i g d o s) h = let x : ◌≡◌ {A = ℕ} 0 1 = cc h in absurd (omega arith)
+every_is P b r (Event.DConnectAcknowledge i g o) h = let x : ◌≡◌ {A = ℕ} 0 1 = cc h in absurd (omega arith)
+every_is P b r (Event.DSetup i a d) h = let x : ◌≡◌ {A = ℕ} 0 1 = cc h in absurd (omega arith)
+every_is P b r (Event.DInfo i u o d s) h = let x : ◌≡◌ {A = ℕ} 0 1 = cc h in absurd (omega arith)
+every_is P b r (Event.DTxGranted i g) h = let x : ◌≡◌ {A = ℕ} 0 1 = cc h in absurd (omega arith)
+every_is P b r (Event.DTxCeased i) h = let x : ◌≡◌ {A = ℕ} 0 1 = cc h in absurd (omega arith)
+every_is P b r (Event.DTxInterrupt i g) h = let x : ◌≡◌ {A = ℕ} 0 1 = cc h in absurd (omega arith)
+every_is P b r (Event.DTxWait i) h = let x : ◌≡◌ {A = ℕ} 0 1 = cc h in absurd (omega arith)
+every_is P b r (Event.DTxContinue i k) h = let x : ◌≡◌ {A = ℕ} 0 1 = cc h in absurd (omega arith)
+every_is P b r (Event.DCallRestore i g s o) h = let x : ◌≡◌ {A = ℕ} 0 1 = cc h in absurd (omega arith)
+every_is P b r (Event.DDisconnect i) h = let x : ◌≡◌ {A = ℕ} 0 1 = cc h in absurd (omega arith)
+every_is P b r (Event.DRelease i) h = let x : ◌≡◌ {A = ℕ} 0 1 = cc h in absurd (omega arith)
+every_is P b r Event.ReportSent h = let x : ◌≡◌ {A = ℕ} 0 1 = cc h in absurd (omega arith)
+every_is P b r Event.ReportFailed h = let x : ◌≡◌ {A = ℕ} 0 1 = cc h in absurd (omega arith)
+every_is P b r Event.Break h = b
+every_is P b r Event.Resume h = r
+every_is P b r (Event.Expiry n) h = let x : ◌≡◌ {A = ℕ} 0 1 = cc h in absurd (omega arith)
 
 -- they are of no call, and never over own transmission
 pub ours : (c : Call) (e : Event) → aim_of e ≡ Aim.Every → other_call c e ≡ false
 unfolding other_call
-ours c e every = every-is (λ w. other_call c w ≡ false) refl refl e every
+ours c e every = every_is (λ w. other_call c w ≡ false) refl refl e every
 
 pub silent : (c : Call) (e : Event) → aim_of e ≡ Aim.Every → over_transmission c e ≡ false
-silent c e every = every-is (λ w. over_transmission c w ≡ false) refl refl e every
+silent c e every = every_is (λ w. over_transmission c w ≡ false) refl refl e every
 
-headed-room : (n l : ℕ) (z : Bool) → eqb n 0 ≡ z → cond z 0 (5 + n) ≤ l → n ≤ l - 5
-headed-room n l true e h = omega (arith, eqb-true n 0 e)
-headed-room n l false e h = omega arith
+headed_room : (n l : ℕ) (z : Bool) → eqb n 0 ≡ z → cond z 0 (5 + n) ≤ l → n ≤ l - 5
+headed_room n l true e h = omega (arith, eqb-true n 0 e)
+headed_room n l false e h = omega arith
 
 -- a place that has room for its part has room for its messages behind the record that names it
 pub part_room : (k : ℕ) (c : Call) (e : Event) (b : List ℕ) → takes e c ≡ true → length (bytes_of (part k c e)) ≤ length b
     → length (bytes_at c e) ≤ length (drop 5 b)
 part_room k c e b t room =
-    rw (length-drop 5 b) (headed-room (length (bytes_at c e)) (length b) (eqb (length (bytes_at c e)) 0) refl (rw (part-size c e k true t) at room))
+    rw (length-drop 5 b) (headed_room (length (bytes_at c e)) (length b) (eqb (length (bytes_at c e)) 0) refl (rw (part_size c e k true t) at room))
 
 -- where there is room, a place that takes the event writes its part, and another stays as it is
 pub record Placed (k : ℕ) (c : Call) (e : Event) (b : List ℕ) (o : Outcome) : Type 0 where
@@ -167,8 +167,8 @@ module _ (k : ℕ) (c : Call) (e : Event) (b : List ℕ) (every : aim_of e ≡ A
   unfolding bytes_of
   placed_by true t =
       let fits : length (bytes_at c e) ≤ length (drop 5 b) = part_room k c e b t room in
-      let d : decided c e (drop 5 b) ≡ taking c e (drop 5 b) = row_carried c e (drop 5 b) (ours c e every) t (silent c e every) ∙ carried-whole c e (drop 5 b) fits in
-      let w = sym (placed-takes k c e b d) in
+      let d : decided c e (drop 5 b) ≡ taking c e (drop 5 b) = row_carried c e (drop 5 b) (ours c e every) t (silent c e every) ∙ carried_whole c e (drop 5 b) fits in
+      let w = sym (placed_takes k c e b d) in
       record {
         answer = ap (λ (o : Outcome). eqb o.answer 0) w ∙ sym t;
         call = ap (λ (o : Outcome). o.call) w ∙ ap (λ (x : Bool). cond x (row_for c e).call c) (sym t);
@@ -176,8 +176,8 @@ module _ (k : ℕ) (c : Call) (e : Event) (b : List ℕ) (every : aim_of e ≡ A
         buffer = ap (λ (o : Outcome). o.buffer) w ∙ ap (λ (x : Bool). sets b 0 (bytes_of (cond x (writes k c e) []))) (sym t);
       }
   placed_by false t =
-      let d : decided c e (drop 5 b) ≡ refusal 6 c (drop 5 b) = row-missing c e (drop 5 b) (ours c e every) t in
-      let w = sym (placed-refuses k c e b 6 (lit≤ tt) d) in
+      let d : decided c e (drop 5 b) ≡ refusal 6 c (drop 5 b) = row_missing c e (drop 5 b) (ours c e every) t in
+      let w = sym (placed_refuses k c e b 6 (lit≤ tt) d) in
       record {
         answer = ap (λ (o : Outcome). eqb o.answer 0) w ∙ sym t;
         call = ap (λ (o : Outcome). o.call) w ∙ ap (λ (x : Bool). cond x (row_for c e).call c) (sym t);
@@ -185,8 +185,8 @@ module _ (k : ℕ) (c : Call) (e : Event) (b : List ℕ) (every : aim_of e ≡ A
         buffer = ap (λ (o : Outcome). o.buffer) w ∙ ap (λ (x : Bool). sets b 0 (bytes_of (cond x (writes k c e) []))) (sym t);
       }
 
-  pub placed-part : Placed k c e b (placed k c e b)
-  placed-part = placed_by (takes e c) refl
+  pub placed_part : Placed k c e b (placed k c e b)
+  placed_part = placed_by (takes e c) refl
 
 -- ---- one place's turn, behind what those in front of it write
 
@@ -197,19 +197,19 @@ module _
   placing =
       let at = passed.size in
       let fits : length (bytes_of (part k c e)) ≤ length (drop at own) = rw (length-drop at own) (omega arith) in
-      let same : o ≡ placed k c e (drop at own) = step ∙ ap (λ (z : List ℕ). placed k c e z) (part-whole own at) in
-      rw same (placed-part k c e (drop at own) every fits)
+      let same : o ≡ placed k c e (drop at own) = step ∙ ap (λ (z : List ℕ). placed k c e z) (part_whole own at) in
+      rw same (placed_part k c e (drop at own) every fits)
 
-  pub turn-within : passed.size + o.count ≤ length own
-  turn-within = let w = placing.count in omega arith
+  pub turn_within : passed.size + o.count ≤ length own
+  turn_within = let w = placing.count in omega arith
 
   abbrev written : List ℕ
   written = put_mid passed.size (length own - passed.size) own o.buffer
 
-  laid-behind : written ≡ sets own passed.size (bytes_of (part k c e))
-  laid-behind =
+  laid_behind : written ≡ sets own passed.size (bytes_of (part k c e))
+  laid_behind =
       let at = passed.size in
-      put_whole own o.buffer at ∙ ap (λ (z : List ℕ). take at own ++ z) placing.buffer ∙ stored-part own (bytes_of (part k c e)) at room
+      put_whole own o.buffer at ∙ ap (λ (z : List ℕ). take at own ++ z) placing.buffer ∙ stored_part own (bytes_of (part k c e)) at room
 
   turn_by : {n upto : ℕ} → n ≡ o.answer → upto ≡ cond (eqb n 0) (k + 1) passed.upto
       → (o.call ≡ next_of e c) × OneMore upto (passed.size + o.count) written k c e passed own
@@ -218,15 +218,15 @@ module _
     record {
       last = last ∙ ap (λ (x : Bool). cond x (k + 1) passed.upto) (ap (λ (x : ℕ). eqb x 0) number ∙ placing.answer);
       behind = ap (λ (m : ℕ). passed.size + m) placing.count;
-      bytes = laid-behind;
+      bytes = laid_behind;
     },
   )
 
-  pub turn-taken : {n : ℕ} → n ≡ o.answer → n ≡ 0 → (o.call ≡ next_of e c) × OneMore (k + 1) (passed.size + o.count) written k c e passed own
-  turn-taken {n} number none = turn_by number (sym (ap (λ (x : Bool). cond x (k + 1) passed.upto) (eq-eqb n 0 none)))
+  pub turn_taken : {n : ℕ} → n ≡ o.answer → n ≡ 0 → (o.call ≡ next_of e c) × OneMore (k + 1) (passed.size + o.count) written k c e passed own
+  turn_taken {n} number none = turn_by number (sym (ap (λ (x : Bool). cond x (k + 1) passed.upto) (eq-eqb n 0 none)))
 
-  pub turn-left : {n : ℕ} → n ≡ o.answer → (n ≡ 0 → ⊥) → (o.call ≡ next_of e c) × OneMore passed.upto (passed.size + o.count) written k c e passed own
-  turn-left {n} number other = turn_by number (sym (ap (λ (x : Bool). cond x (k + 1) passed.upto) (ne_eqb n 0 other)))
+  pub turn_left : {n : ℕ} → n ≡ o.answer → (n ≡ 0 → ⊥) → (o.call ≡ next_of e c) × OneMore passed.upto (passed.size + o.count) written k c e passed own
+  turn_left {n} number other = turn_by number (sym (ap (λ (x : Bool). cond x (k + 1) passed.upto) (ne_eqb n 0 other)))
 
 -- ---- the buffer and the table where k places have been passed
 
@@ -259,15 +259,15 @@ last_within false k upto le = omega arith
 
 module _
     {e : Event} {b₀ : List ℕ} {calls : List Call} {b : List ℕ} {after : List Call} {passed : SoFar} {k : ℕ} (p : Putting e b₀ calls b after passed k) where
-  pub same-room : length b ≡ length b₀
-  same-room = ap length p.bytes ∙ length-sets b₀ 0 (bytes_of (done calls e k))
+  pub same_room : length b ≡ length b₀
+  same_room = ap length p.bytes ∙ length-sets b₀ 0 (bytes_of (done calls e k))
 
   pub as_many : length after ≡ 8
   as_many =
       let n = p.eight in
       let w = p.within in
       ap length p.records ∙ length-append (all_next (take k calls) e) (drop k calls)
-      ∙ (λ i. (next-length (take k calls) e ∙ length-take-le k calls (omega arith)) i + length-drop k calls i) ∙ omega arith
+      ∙ (λ i. (next_length (take k calls) e ∙ length-take-le k calls (omega arith)) i + length-drop k calls i) ∙ omega arith
 
   pub put_all : length calls ≤ k → LaidAll (record { upto = passed.upto; size = passed.size; calls = after }) b calls e b₀
   put_all le =
@@ -290,14 +290,14 @@ module _
 
   module _ (lt : k < 8) where
     before : length (all_next (take k calls) e) ≡ k
-    before = let n = p.eight in next-length (take k calls) e ∙ length-take-le k calls (omega arith)
+    before = let n = p.eight in next_length (take k calls) e ∙ length-take-le k calls (omega arith)
 
     split : after ≡ all_next (take k calls) e ++ call_at calls k ∷ drop (suc k) calls
     split = let n = p.eight in p.records ∙ ap (λ (z : List Call). all_next (take k calls) e ++ z) (drop-cons calls k no_call (omega arith))
 
     -- the record that is next is the one of the table
-    next-call : call_at after k ≡ call_at calls k
-    next-call = ap (λ (z : List Call). call_at z k) split ∙ get_or_at (all_next (take k calls) e) (call_at calls k) (drop (suc k) calls) no_call k before
+    next_call : call_at after k ≡ call_at calls k
+    next_call = ap (λ (z : List Call). call_at z k) split ∙ get_or_at (all_next (take k calls) e) (call_at calls k) (drop (suc k) calls) no_call k before
 
     size_more : length (bytes_of (done calls e (k + 1))) ≡ passed.size + length (bytes_of (part k (call_at calls k) e))
     size_more =
@@ -311,17 +311,17 @@ module _
     room_more =
         let s = size_more in
         let w = done_within calls e (k + 1) in
-        let l = same-room in
+        let l = same_room in
         let r = p.room in
-        rw next-call (omega arith)
+        rw next_call (omega arith)
 
     module _ {upto size : ℕ} {now : List ℕ} (more : OneMore upto size now k (call_at after k) e passed b) where
-      last-is : upto ≡ cond (takes e (call_at calls k)) (k + 1) passed.upto
-      last-is = more.last ∙ ap (λ (c : Call). cond (takes e c) (k + 1) passed.upto) next-call
+      last_is : upto ≡ cond (takes e (call_at calls k)) (k + 1) passed.upto
+      last_is = more.last ∙ ap (λ (c : Call). cond (takes e c) (k + 1) passed.upto) next_call
 
-      tight-by : (t : Bool) → takes e (call_at calls k) ≡ t → (j : ℕ) → cond t (k + 1) passed.upto ≡ suc j → takes e (call_at calls j) ≡ true
-      tight-by true t j is = let same : j ≡ k = omega arith in ap (λ (n : ℕ). takes e (call_at calls n)) same ∙ t
-      tight-by false t j is = p.tight j is
+      tight_by : (t : Bool) → takes e (call_at calls k) ≡ t → (j : ℕ) → cond t (k + 1) passed.upto ≡ suc j → takes e (call_at calls j) ≡ true
+      tight_by true t j is = let same : j ≡ k = omega arith in ap (λ (n : ℕ). takes e (call_at calls n)) same ∙ t
+      tight_by false t j is = p.tight j is
 
       left_by : (t : Bool) → takes e (call_at calls k) ≡ t → (j : ℕ) → cond t (k + 1) passed.upto ≤ j → j < k + 1 → takes e (call_at calls j) ≡ false
       left_by true t j from below = absurd (omega arith)
@@ -335,7 +335,7 @@ module _
           let v = bytes_of (part k (call_at calls k) e) in
           let whole : bytes_of (done calls e (k + 1)) ≡ bytes_of (done calls e k) ++ v =
           ap bytes_of (done_more calls e k (omega arith)) ∙ bytes-append (done calls e k) (part k (call_at calls k) e) in
-          let same : part k (call_at after k) e ≡ part k (call_at calls k) e = ap (λ (c : Call). part k c e) next-call in
+          let same : part k (call_at after k) e ≡ part k (call_at calls k) e = ap (λ (c : Call). part k c e) next_call in
           record {
             bytes =
                 more.bytes
@@ -345,7 +345,7 @@ module _
                 ∙ sym (sets-append (bytes_of (done calls e k)) b₀ v 0)
                 ∙ ap (λ (z : List ℕ). sets b₀ 0 z) (sym whole);
             records =
-                (λ i. set (split i) k (next_of e (next-call i)))
+                (λ i. set (split i) k (next_of e (next_call i)))
                 ∙ set_at (all_next (take k calls) e) (call_at calls k) (drop (suc k) calls) (next_of e (call_at calls k)) k before
                 ∙ sym
                 (ap (λ (z : List Call). all_next z e ++ drop (k + 1) calls) (more_of calls e k (omega arith))
@@ -353,15 +353,15 @@ module _
                 ∙ append_assoc (all_next (take k calls) e) (next_of e (call_at calls k) ∷ []) (drop (k + 1) calls)
                 ∙ ap (λ (m : ℕ). all_next (take k calls) e ++ next_of e (call_at calls k) ∷ drop m calls) (add-one k));
             taken =
-                ap (λ (n : ℕ). not (eqb n 0)) last-is
+                ap (λ (n : ℕ). not (eqb n 0)) last_is
                 ∙ last_taken (takes e (call_at calls k)) k passed.upto
                 ∙ ap (λ (x : Bool). takes e (call_at calls k) || x) p.taken
                 ∙ sym
                 (ap (λ (z : List Call). some? (takes e) z) (more_of calls e k (omega arith))
                 ∙ some-append (takes e) (take k calls) (call_at calls k));
-            last = rw last-is (last_within (takes e (call_at calls k)) k passed.upto p.last);
-            tight = λ j is. tight-by (takes e (call_at calls k)) refl j (sym last-is ∙ is);
-            left = λ j from below. left_by (takes e (call_at calls k)) refl j (rw last-is at from) below;
+            last = rw last_is (last_within (takes e (call_at calls k)) k passed.upto p.last);
+            tight = λ j is. tight_by (takes e (call_at calls k)) refl j (sym last_is ∙ is);
+            left = λ j from below. left_by (takes e (call_at calls k)) refl j (rw last_is at from) below;
             position = more.behind ∙ ap (λ (z : List Message). passed.size + length (bytes_of z)) same ∙ sym size_more;
             within = omega arith;
             eight = eight;
@@ -378,11 +378,11 @@ own_fits calls e {r} {own} {own₀} laid room =
     omega arith
 
 -- the front of our own buffer is as long as what was laid
-pub front-size : (n : ℕ) (own : List ℕ) → n ≤ length own → n ≡ length (take n own)
-front-size n own fits = sym (length-take-le n own fits)
+pub front_size : (n : ℕ) (own : List ℕ) → n ≤ length own → n ≡ length (take n own)
+front_size n own fits = sym (length-take-le n own fits)
 
-pub front-within : (n : ℕ) (own b : List ℕ) → n ≤ length own → n ≤ length b → length (take n own) ≤ length b
-front-within n own b fits room = let s = front-size n own fits in omega arith
+pub front_within : (n : ℕ) (own b : List ℕ) → n ≤ length own → n ≤ length b → length (take n own) ≤ length b
+front_within n own b fits room = let s = front_size n own fits in omega arith
 
 module _ (calls : List Call) (e : Event) (b : List ℕ) {r : AllStepped} {own own₀ : List ℕ} (laid : LaidAll r own calls e own₀) where
   none_of : r.upto ≡ 0 → some? (takes e) calls ≡ false
@@ -391,9 +391,9 @@ module _ (calls : List Call) (e : Event) (b : List ℕ) {r : AllStepped} {own ow
   some_of : (r.upto ≡ 0 → ⊥) → some? (takes e) calls ≡ true
   some_of one = sym laid.taken ∙ ap not (ne_eqb r.upto 0 one)
 
-  pub none-takes : r.upto ≡ 0 → refuses 6 calls b ≡ everywhere calls e b
+  pub none_takes : r.upto ≡ 0 → refuses 6 calls b ≡ everywhere calls e b
   unfolding everywhere
-  none-takes none = rw (none_of none)
+  none_takes none = rw (none_of none)
 
   pub no_space : (r.upto ≡ 0 → ⊥) → length b < r.size → refuses 7 calls b ≡ everywhere calls e b
   unfolding everywhere

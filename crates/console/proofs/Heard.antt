@@ -27,19 +27,19 @@ use Rattle.callcontrol.proofs.Verbs.{verbs}
 use Rattle.demands.specs.Runs.{Turn, outcome, next, run, written_by, written_in, every?}
 use Rattle.demands.specs.Demands.{Kept}
 use Rattle.demands.proofs.ByRow.{Row, Cell, cell, row, no_row_lem}
-use Rattle.demands.proofs.Cases.{by-plane, by-restart, by-grant, by-grant_or_off}
-use Rattle.demands.proofs.Demands.{step_in_range, step-keeps-sound}
+use Rattle.demands.proofs.Cases.{by_plane, by_restart, by_grant, by_grant_or_off}
+use Rattle.demands.proofs.Demands.{step_in_range, step_keeps_sound}
 use Rattle.demands.proofs.Facts.{and, left, right}
-use Rattle.demands.proofs.ReadsBack.{read-after-read, stored}
+use Rattle.demands.proofs.ReadsBack.{read_after_read, stored}
 use Rattle.demands.proofs.Turns as step-turns
 use Rattle.console.specs.declared.route.Route.{Route}
 use Rattle.console.specs.Table.{call_at, fresh_table}
 use Rattle.console.specs.Console.{behind, writes, placed, at_place, everywhere, headed}
 use Rattle.console.specs.Runs.{ConsoleTurn, console_outcome, console_next, went_to, went_in, framed_from, framed, named_by, own_from, heard_in}
 use Rattle.console.specs.Demands as claims
-use Rattle.console.proofs.Everywhere.{part-size}
-use Rattle.console.proofs.Placing.{bytes_at, Decides, decides, placed-refuses, placed-takes}
-use Rattle.console.proofs.Turns.{Everywhere, everywhere_does, none-takes, no_room, all_take, Came, came, unsound, unread, routes}
+use Rattle.console.proofs.Everywhere.{part_size}
+use Rattle.console.proofs.Placing.{bytes_at, Decides, decides, placed_refuses, placed_takes}
+use Rattle.console.proofs.Turns.{Everywhere, everywhere_does, none_takes, no_room, all_take, Came, came, unsound, unread, routes}
 use Rattle.console.proofs.Twins.{Good, good_fresh, good_next, good_run, fresh_at}
 use Rattle.console.proofs.Went as Went
 
@@ -90,21 +90,21 @@ plain_writes x p =
 
 -- the verbs that ask about numbers leave the U-PDU as it is
 module _ (x : Draft) (h : UnnamedIn x.pdu) where
-  plane-pdu : (n : ℕ) → UnnamedIn (plane n x).pdu
+  plane_pdu : (n : ℕ) → UnnamedIn (plane n x).pdu
   unfolding verbs
-  plane-pdu n = by-plane (λ y. UnnamedIn y.pdu) n x (λ b. elim b [ true ↦ h | false ↦ h ])
+  plane_pdu n = by_plane (λ y. UnnamedIn y.pdu) n x (λ b. elim b [ true ↦ h | false ↦ h ])
 
-  restart-pdu : (r o : ℕ) → UnnamedIn (restart r o x).pdu
+  restart_pdu : (r o : ℕ) → UnnamedIn (restart r o x).pdu
   unfolding verbs
-  restart-pdu r o = by-restart (λ y. UnnamedIn y.pdu) r o x h h h
+  restart_pdu r o = by_restart (λ y. UnnamedIn y.pdu) r o x h h h
 
-  grant-pdu : (g : ℕ) → UnnamedIn (grant g x).pdu
+  grant_pdu : (g : ℕ) → UnnamedIn (grant g x).pdu
   unfolding verbs
-  grant-pdu g = by-grant (λ y. UnnamedIn y.pdu) g x h h h h h
+  grant_pdu g = by_grant (λ y. UnnamedIn y.pdu) g x h h h h h
 
   grant_or_off_pdu : (g : ℕ) → UnnamedIn (grant_or_off g x).pdu
   unfolding verbs
-  grant_or_off_pdu g = by-grant_or_off (λ y. UnnamedIn y.pdu) g x h h h h h h h
+  grant_or_off_pdu g = by_grant_or_off (λ y. UnnamedIn y.pdu) g x h h h h h h h
 
 plain_row : {c : Call} {s : State} {w : Path} {e : Event} {x : Draft} → Row c s w e x → Plain x
 unfolding verbs named_by Rows.releasing Rows.disconnected Rows.released Rows.confirmed
@@ -115,7 +115,7 @@ plain_row (Row.expires l n k t z) = record { pdu = refl; user = refl }
 plain_row (Row.calls a d q s) = record { pdu = refl; user = tt }
 plain_row (Row.is_called i a d) = record { pdu = tt; user = refl }
 plain_row (Row.takes_back z) = record { pdu = tt; user = refl }
-plain_row (Row.releases-sent z) = record { pdu = refl; user = tt }
+plain_row (Row.releases_sent z) = record { pdu = refl; user = tt }
 plain_row (Row.proceeds i) = record { pdu = tt; user = refl }
 plain_row (Row.alerts i) = record { pdu = tt; user = refl }
 plain_row {c} (Row.connects i g d o s) =
@@ -129,28 +129,28 @@ plain_row {c} (Row.completes i g o z) =
 plain_row (Row.asks_to_send k z y) = record { pdu = refl; user = tt }
 plain_row (Row.stops_sending k z y) = record { pdu = refl; user = tt }
 plain_row (Row.asks_no_more k z y x) = record { pdu = refl; user = tt }
-plain_row {c} (Row.same-mode i r o d s z) = record { pdu = restart-pdu (draft c) tt r o; user = refl }
-plain_row {c} (Row.new_mode i r o d s z) = record { pdu = restart-pdu (draft c) tt r o; user = refl }
-plain_row {c} (Row.granted i g) = record { pdu = grant-pdu (draft c) tt g; user = refl }
+plain_row {c} (Row.same_mode i r o d s z) = record { pdu = restart_pdu (draft c) tt r o; user = refl }
+plain_row {c} (Row.new_mode i r o d s z) = record { pdu = restart_pdu (draft c) tt r o; user = refl }
+plain_row {c} (Row.granted i g) = record { pdu = grant_pdu (draft c) tt g; user = refl }
 plain_row (Row.ceased i) = record { pdu = tt; user = refl }
-plain_row {c} (Row.interrupted i g) = record { pdu = plane-pdu (draft c) tt (cond (eqb g 3) 2 4); user = refl }
+plain_row {c} (Row.interrupted i g) = record { pdu = plane_pdu (draft c) tt (cond (eqb g 3) 2 4); user = refl }
 plain_row (Row.pauses i) = record { pdu = tt; user = refl }
 plain_row Row.breaks = record { pdu = tt; user = tt }
 plain_row (Row.talked_out n z y) = record { pdu = refl; user = tt }
 plain_row (Row.wants k z) = record { pdu = tt; user = tt }
 plain_row Row.resumes = record { pdu = refl; user = tt }
 plain_row {c} (Row.restored i g r o) =
-    let x : Draft = draft c ▷ stop T306 ▷ on_path Path.Up in record { pdu = restart-pdu (grant g x) (grant-pdu x tt g) r o; user = refl }
-plain_row Row.breaks-again = record { pdu = tt; user = tt }
-plain_row {c} (Row.continues i k z) = record { pdu = plane-pdu (go State.CallActive (draft c)) tt c.kept; user = refl }
+    let x : Draft = draft c ▷ stop T306 ▷ on_path Path.Up in record { pdu = restart_pdu (grant g x) (grant_pdu x tt g) r o; user = refl }
+plain_row Row.breaks_again = record { pdu = tt; user = tt }
+plain_row {c} (Row.continues i k z) = record { pdu = plane_pdu (go State.CallActive (draft c)) tt c.kept; user = refl }
 plain_row (Row.continues_off i k z) = record { pdu = tt; user = refl }
 plain_row Row.breaks_paused = record { pdu = tt; user = refl }
 plain_row (Row.collides i z) = record { pdu = refl; user = refl }
-plain_row (Row.collides-sent i z) = record { pdu = refl; user = refl }
-plain_row (Row.ends-first i z) = record { pdu = tt; user = refl }
+plain_row (Row.collides_sent i z) = record { pdu = refl; user = refl }
+plain_row (Row.ends_first i z) = record { pdu = tt; user = refl }
 plain_row (Row.confirms i z) = record { pdu = tt; user = refl }
-plain_row (Row.end-sent z) = record { pdu = tt; user = tt }
-plain_row (Row.end-unsent z) = record { pdu = tt; user = refl }
+plain_row (Row.end_sent z) = record { pdu = tt; user = tt }
+plain_row (Row.end_unsent z) = record { pdu = tt; user = refl }
 plain_row (Row.unanswered n z) = record { pdu = tt; user = refl }
 
 row_plain : (c : Call) (e : Event) → Plain (row_for c e)
@@ -251,8 +251,8 @@ heard_from calls (t ∷ ts) k lt g =
     (heard_from (console_next calls t) ts k lt (good_next calls t g) ∙ ap (λ (d : Call). written_in d later) (Went.record_at calls t k lt))
     ∙ sym (written-append c (went_to k calls t) later)
 
-pub messages-at : claims.MessagesAt
-messages-at ts k lt = heard_from fresh_table ts k lt good_fresh ∙ ap (λ (c : Call). written_in c (went_in k fresh_table ts)) (fresh_at k lt)
+pub messages_at : claims.MessagesAt
+messages_at ts k lt = heard_from fresh_table ts k lt good_fresh ∙ ap (λ (c : Call). written_in c (went_in k fresh_table ts)) (fresh_at k lt)
 
 -- ---- each message of a turn is in range
 
@@ -263,66 +263,66 @@ fine_both : (ms ns : List Message) → Fine ms → Fine ns → Fine (ms ++ ns)
 fine_both [] ns p q = q
 fine_both (m ∷ ms) ns p q = and _ _ (left (fine messages m) _ p) (fine_both ms ns (right (fine messages m) _ p) q)
 
-written-fine : (c : Call) (ts : List Turn) → Kept c → Fine (written_in c ts)
+written_fine : (c : Call) (ts : List Turn) → Kept c → Fine (written_in c ts)
 unfolding written_in next outcome
-written-fine c [] k = refl
-written-fine c (t ∷ ts) k = fine_both (written_by c t) _ (step_in_range c t k) (written-fine _ ts (step-keeps-sound c t.event t.buffer k))
+written_fine c [] k = refl
+written_fine c (t ∷ ts) k = fine_both (written_by c t) _ (step_in_range c t k) (written_fine _ ts (step_keeps_sound c t.event t.buffer k))
 
-place-fine : (k : ℕ) → k < 8 → fine messages (Place k) ≡ true
+place_fine : (k : ℕ) → k < 8 → fine messages (Place k) ≡ true
 unfolding fine flat_fits all_fit within
-place-fine k lt = rw (le-leb 0 k (omega arith), le-leb k 7 (omega arith))
+place_fine k lt = rw (le-leb 0 k (omega arith), le-leb k 7 (omega arith))
 
-behind-fine : (k : ℕ) (ms : List Message) → k < 8 → Fine ms → Fine (behind k ms)
-behind-fine k [] lt p = p
-behind-fine k (m ∷ ms) lt p = and _ _ (place-fine k lt) p
+behind_fine : (k : ℕ) (ms : List Message) → k < 8 → Fine ms → Fine (behind k ms)
+behind_fine k [] lt p = p
+behind_fine k (m ∷ ms) lt p = and _ _ (place_fine k lt) p
 
-framed-fine : (turns : ℕ → List Turn) (i : ℕ) (cs : List Call) → i + length cs ≤ 8 → ((n : ℕ) → n < length cs → Kept (call_at cs n)) → Fine (framed_from i cs turns)
-framed-fine turns i [] le kept = refl
-framed-fine turns i (c ∷ cs) le kept =
+framed_fine : (turns : ℕ → List Turn) (i : ℕ) (cs : List Call) → i + length cs ≤ 8 → ((n : ℕ) → n < length cs → Kept (call_at cs n)) → Fine (framed_from i cs turns)
+framed_fine turns i [] le kept = refl
+framed_fine turns i (c ∷ cs) le kept =
     fine_both (behind i (written_in c (turns i))) (framed_from (suc i) cs turns)
-    (behind-fine i (written_in c (turns i)) (omega arith) (written-fine c (turns i) (kept 0 (omega arith))))
-    (framed-fine turns (suc i) cs (omega arith) (λ n lt. kept (suc n) (omega arith)))
+    (behind_fine i (written_in c (turns i)) (omega arith) (written_fine c (turns i) (kept 0 (omega arith))))
+    (framed_fine turns (suc i) cs (omega arith) (λ n lt. kept (suc n) (omega arith)))
 
 -- ---- the bytes that a turn counts are in the buffer
 
-headed-fits : (n l : ℕ) (z : Bool) → eqb n 0 ≡ z → n ≤ l - 5 → cond z 0 (5 + n) ≤ l
-headed-fits n l true e h = omega arith
-headed-fits n l false e h = omega (arith, eqb-false n 0 e)
+headed_fits : (n l : ℕ) (z : Bool) → eqb n 0 ≡ z → n ≤ l - 5 → cond z 0 (5 + n) ≤ l
+headed_fits n l true e h = omega arith
+headed_fits n l false e h = omega (arith, eqb-false n 0 e)
 
-place-fits : (k : ℕ) (c : Call) (e : Event) (b : List ℕ) → (placed k c e b).count ≤ length b
-place-fits k c e b = by (decides c e (drop 5 b))
+place_fits : (k : ℕ) (c : Call) (e : Event) (b : List ℕ) → (placed k c e b).count ≤ length b
+place_fits k c e b = by (decides c e (drop 5 b))
   where
     by : Decides c e (drop 5 b) → (placed k c e b).count ≤ length b
-    by (Decides.refuses n z d) = rw (← placed-refuses k c e b n z d) (omega arith)
+    by (Decides.refuses n z d) = rw (← placed_refuses k c e b n z d) (omega arith)
     by (Decides.takes w f d) =
         let n = length (bytes_at c e) in
-        let size : length (bytes_of (writes k c e)) ≡ headed n = sym (ap (λ (x : Bool). length (bytes_of (cond x (writes k c e) []))) w) ∙ part-size c e k true w in
-        rw (← placed-takes k c e b d, size) (headed-fits n (length b) (eqb n 0) refl (rw (length-drop 5 b) at f))
+        let size : length (bytes_of (writes k c e)) ≡ headed n = sym (ap (λ (x : Bool). length (bytes_of (cond x (writes k c e) []))) w) ∙ part_size c e k true w in
+        rw (← placed_takes k c e b d, size) (headed_fits n (length b) (eqb n 0) refl (rw (length-drop 5 b) at f))
 
-turn-fits : (calls : List Call) (t : ConsoleTurn) → (console_outcome calls t).count ≤ length t.buffer
+turn_fits : (calls : List Call) (t : ConsoleTurn) → (console_outcome calls t).count ≤ length t.buffer
 unfolding at_place
-turn-fits calls t = by (came calls t)
+turn_fits calls t = by (came calls t)
   where
     all : (e : Event) → Everywhere calls e t.buffer → (everywhere calls e t.buffer).count ≤ length t.buffer
-    all e (none-takes x d) = rw d (omega arith)
+    all e (none_takes x d) = rw d (omega arith)
     all e (no_room x f d) = rw d (omega arith)
     all e (all_take x f d) = rw d (leb-true _ _ f)
 
     by : Came calls t → (console_outcome calls t).count ≤ length t.buffer
     by (unsound s o) = rw o (omega arith)
     by (unread n p s h o) = rw o (omega arith)
-    by (routes e (Route.To j) s h r o) = rw o (place-fits j (call_at calls j) e t.buffer)
+    by (routes e (Route.To j) s h r o) = rw o (place_fits j (call_at calls j) e t.buffer)
     by (routes e Route.Everywhere s h r o) = rw o (all e (everywhere_does calls e t.buffer))
     by (routes e (Route.Refused a) s h r o) = rw o (omega arith)
 
-pub reads-back : claims.ReadsBack
+pub reads_back : claims.ReadsBack
 unfolding framed
-reads-back ts t =
+reads_back ts t =
     let calls = claims.after ts in
     let ms = framed calls t in
     let g = good_run fresh_table ts good_fresh in
     let n = g.eight in
     let w = Went.messages calls t in
-    let room : length (bytes_of ms) ≤ length t.buffer = rw w.0 at (turn-fits calls t) in
+    let room : length (bytes_of ms) ≤ length t.buffer = rw w.0 at (turn_fits calls t) in
     rw (w.0, w.1, stored (bytes_of ms) t.buffer room)
-    (read-after-read ms (framed-fine (λ k. went_to k calls t) 0 calls (omega arith) (λ k lt. g.kept k (omega arith))))
+    (read_after_read ms (framed_fine (λ k. went_to k calls t) 0 calls (omega arith) (λ k lt. g.kept k (omega arith))))

@@ -29,28 +29,28 @@ pub data Names (c : Call) (e : Event) (d : Draft) : Type 0 where
 abbrev Same : ℕ → Draft → Type 0
 Same i x = x.call.id ≡ i
 
-id-plane : (p : ℕ) (x : Draft) → (plane p x).call.id ≡ x.call.id
+id_plane : (p : ℕ) (x : Draft) → (plane p x).call.id ≡ x.call.id
 unfolding plane same_plane start stop
-id-plane p x = by (eqb p 1) refl
+id_plane p x = by (eqb p 1) refl
   where
     by : (b : Bool) → eqb p 1 ≡ b → (plane p x).call.id ≡ x.call.id
     by true e = rw e
     by false e = rw e
 
-id-grant : (g : ℕ) (x : Draft) → (grant g x).call.id ≡ x.call.id
+id_grant : (g : ℕ) (x : Draft) → (grant g x).call.id ≡ x.call.id
 unfolding grant store_asked
-id-grant g x =
-    either (Same x.call.id) (eqb g 0) (id-plane _ (store_asked 0 x))
-    (either (Same x.call.id) (eqb g 1) refl (either (Same x.call.id) (eqb g 3) (id-plane 2 x) refl))
+id_grant g x =
+    either (Same x.call.id) (eqb g 0) (id_plane _ (store_asked 0 x))
+    (either (Same x.call.id) (eqb g 1) refl (either (Same x.call.id) (eqb g 3) (id_plane 2 x) refl))
 
-id-grant_or_off : (g : ℕ) (x : Draft) → (grant_or_off g x).call.id ≡ x.call.id
+id_grant_or_off : (g : ℕ) (x : Draft) → (grant_or_off g x).call.id ≡ x.call.id
 unfolding grant_or_off off
-id-grant_or_off g x =
-    either (Same x.call.id) (eqb g 1 || eqb g 2) (id-plane 4 (grant g x) ∙ id-grant g x) (id-grant g x)
+id_grant_or_off g x =
+    either (Same x.call.id) (eqb g 1 || eqb g 2) (id_plane 4 (grant g x) ∙ id_grant g x) (id_grant g x)
 
-id-restart : (r o : ℕ) (x : Draft) → (restart r o x).call.id ≡ x.call.id
+id_restart : (r o : ℕ) (x : Draft) → (restart r o x).call.id ≡ x.call.id
 unfolding restart store_code start
-id-restart r o x = either (Same x.call.id) (eqb r 1) refl refl
+id_restart r o x = either (Same x.call.id) (eqb r 1) refl refl
 
 -- ---- the rows
 
@@ -63,48 +63,48 @@ live c called is = in_call c is refl
 live c talking is = in_call c is refl
 live c waiting is = in_call c is refl
 
-row-names : {c : Call} {s : State} {w : Path} {e : Event} {d : Draft} → Row c s w e d → c.state ≡ s → Names c e d
+row_names : {c : Call} {s : State} {w : Path} {e : Event} {d : Draft} → Row c s w e d → c.state ≡ s → Names c e d
 unfolding verbs releasing released disconnected confirmed
-row-names {c} (Row.releases l) is = kept (live c l is) refl
-row-names (Row.disconnects l i) is = gone refl
-row-names (Row.ends l i) is = gone refl
-row-names {c} (Row.expires l n k t r) is = kept (live c l is) refl
-row-names {c} (Row.calls a d q s) is = begun (ap (λ (s : State). eqb (state_number s) 0) is) refl refl
-row-names (Row.is_called i a d) is = brought i refl refl
-row-names (Row.takes_back z) is = gone refl
-row-names {c} (Row.releases-sent z) is = kept (live c calling is) refl
-row-names {c} (Row.proceeds i) is = named i refl (live c calling is) refl
-row-names {c} (Row.alerts i) is = named i refl (live c calling is) refl
-row-names {c} (Row.connects i g d o s) is = named i refl (live c calling is) (id-grant_or_off g _)
-row-names {c} (Row.sent z) is = kept (live c calling is) refl
-row-names (Row.unsent z) is = gone refl
-row-names {c} (Row.answers r) is = kept (live c called is) refl
-row-names {c} (Row.completes i g o r) is = kept (live c called is) (id-grant_or_off g _)
-row-names {c} (Row.asks_to_send k o z) is = kept (live c talking is) refl
-row-names {c} (Row.stops_sending k o z) is = kept (live c talking is) refl
-row-names {c} (Row.asks_no_more k o z y) is = kept (live c talking is) refl
-row-names {c} (Row.same-mode i r o d s z) is = kept (live c talking is) (id-restart r o _)
-row-names {c} (Row.new_mode i r o d s z) is = kept (live c talking is) (id-restart r o _)
-row-names {c} (Row.granted i g) is = kept (live c talking is) (id-grant g _)
-row-names {c} (Row.ceased i) is = kept (live c talking is) refl
-row-names {c} (Row.interrupted i g) is = kept (live c talking is) (id-plane (cond (eqb g 3) 2 4) (draft c))
-row-names {c} (Row.pauses i) is = kept (live c talking is) refl
-row-names {c} Row.breaks is = kept (live c talking is) refl
-row-names {c} (Row.talked_out n z r) is = kept (live c talking is) refl
-row-names {c} (Row.wants k z) is = kept (live c talking is) refl
-row-names {c} Row.resumes is = kept (live c talking is) refl
-row-names {c} (Row.restored i g r o) is = kept (live c talking is) (id-restart r o _ ∙ id-grant g _)
-row-names {c} Row.breaks-again is = kept (live c talking is) refl
-row-names {c} (Row.continues i k z) is = kept (live c waiting is) (id-plane c.kept (go State.CallActive (draft c)))
-row-names {c} (Row.continues_off i k z) is = kept (live c waiting is) refl
-row-names {c} Row.breaks_paused is = kept (live c waiting is) refl
-row-names (Row.collides i z) is = gone refl
-row-names (Row.collides-sent i z) is = gone refl
-row-names (Row.ends-first i z) is = gone refl
-row-names (Row.confirms i z) is = gone refl
-row-names {c} (Row.end-sent z) is = kept (in_call c is refl) refl
-row-names (Row.end-unsent z) is = gone refl
-row-names (Row.unanswered n z) is = gone refl
+row_names {c} (Row.releases l) is = kept (live c l is) refl
+row_names (Row.disconnects l i) is = gone refl
+row_names (Row.ends l i) is = gone refl
+row_names {c} (Row.expires l n k t r) is = kept (live c l is) refl
+row_names {c} (Row.calls a d q s) is = begun (ap (λ (s : State). eqb (state_number s) 0) is) refl refl
+row_names (Row.is_called i a d) is = brought i refl refl
+row_names (Row.takes_back z) is = gone refl
+row_names {c} (Row.releases_sent z) is = kept (live c calling is) refl
+row_names {c} (Row.proceeds i) is = named i refl (live c calling is) refl
+row_names {c} (Row.alerts i) is = named i refl (live c calling is) refl
+row_names {c} (Row.connects i g d o s) is = named i refl (live c calling is) (id_grant_or_off g _)
+row_names {c} (Row.sent z) is = kept (live c calling is) refl
+row_names (Row.unsent z) is = gone refl
+row_names {c} (Row.answers r) is = kept (live c called is) refl
+row_names {c} (Row.completes i g o r) is = kept (live c called is) (id_grant_or_off g _)
+row_names {c} (Row.asks_to_send k o z) is = kept (live c talking is) refl
+row_names {c} (Row.stops_sending k o z) is = kept (live c talking is) refl
+row_names {c} (Row.asks_no_more k o z y) is = kept (live c talking is) refl
+row_names {c} (Row.same_mode i r o d s z) is = kept (live c talking is) (id_restart r o _)
+row_names {c} (Row.new_mode i r o d s z) is = kept (live c talking is) (id_restart r o _)
+row_names {c} (Row.granted i g) is = kept (live c talking is) (id_grant g _)
+row_names {c} (Row.ceased i) is = kept (live c talking is) refl
+row_names {c} (Row.interrupted i g) is = kept (live c talking is) (id_plane (cond (eqb g 3) 2 4) (draft c))
+row_names {c} (Row.pauses i) is = kept (live c talking is) refl
+row_names {c} Row.breaks is = kept (live c talking is) refl
+row_names {c} (Row.talked_out n z r) is = kept (live c talking is) refl
+row_names {c} (Row.wants k z) is = kept (live c talking is) refl
+row_names {c} Row.resumes is = kept (live c talking is) refl
+row_names {c} (Row.restored i g r o) is = kept (live c talking is) (id_restart r o _ ∙ id_grant g _)
+row_names {c} Row.breaks_again is = kept (live c talking is) refl
+row_names {c} (Row.continues i k z) is = kept (live c waiting is) (id_plane c.kept (go State.CallActive (draft c)))
+row_names {c} (Row.continues_off i k z) is = kept (live c waiting is) refl
+row_names {c} Row.breaks_paused is = kept (live c waiting is) refl
+row_names (Row.collides i z) is = gone refl
+row_names (Row.collides_sent i z) is = gone refl
+row_names (Row.ends_first i z) is = gone refl
+row_names (Row.confirms i z) is = gone refl
+row_names {c} (Row.end_sent z) is = kept (in_call c is refl) refl
+row_names (Row.end_unsent z) is = gone refl
+row_names (Row.unanswered n z) is = gone refl
 
 pub names : (c : Call) (e : Event) → (row_for c e).taken ≡ true → Names c e (row_for c e)
-names c e taken = row-names (is_row c e taken) refl
+names c e taken = row_names (is_row c e taken) refl

@@ -21,9 +21,9 @@ module _ (calls : List Call) (k : ℕ) (lt : k < length calls) where
   pub every_not : (p : Call → Bool) → p (call_at calls k) ≡ false → false ≡ every? p (drop k calls)
   every_not p is = rw (rest calls k lt, is)
 
-  pub every-later : (p : Call → Bool) → p (call_at calls k) ≡ true → every? p (drop k calls) ≡ every? p (drop (k + 1) calls)
-  every-later p is = rw (rest calls k lt, is)
+  pub every_later : (p : Call → Bool) → p (call_at calls k) ≡ true → every? p (drop k calls) ≡ every? p (drop (k + 1) calls)
+  every_later p is = rw (rest calls k lt, is)
 
 module _ (calls : List Call) (k : ℕ) (le : length calls ≤ k) where
-  pub every-end : (p : Call → Bool) → true ≡ every? p (drop k calls)
-  every-end p = rw (nothing_left calls k le)
+  pub every_end : (p : Call → Bool) → true ≡ every? p (drop k calls)
+  every_end p = rw (nothing_left calls k le)

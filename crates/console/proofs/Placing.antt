@@ -20,7 +20,7 @@ use Rattle.callcontrol.specs.declared.call.Call.{Call}
 use Rattle.callcontrol.specs.Rows.{row_for}
 use Rattle.callcontrol.specs.Writing.{messages_in, bytes_of}
 use Rattle.callcontrol.specs.Step.{Outcome, refusal, other_call, over_transmission, carried, decided}
-use Rattle.callcontrol.proofs.Laying.{messages-small}
+use Rattle.callcontrol.proofs.Laying.{messages_small}
 use Rattle.console.specs.Console.{behind, writes, placed, headed, head_room}
 
 -- ---- what a step that was decided is
@@ -50,26 +50,26 @@ module _ (c : Call) (e : Event) (b : List ℕ) where
   pub row_carried : other_call c e ≡ false → (row_for c e).taken ≡ true → over_transmission c e ≡ false → decided c e b ≡ carried c (row_for c e) b
   row_carried o t s = by_tests_lem o t ∙ ap rowed s
 
-  pub row-missing : other_call c e ≡ false → (row_for c e).taken ≡ false → decided c e b ≡ refusal 6 c b
-  row-missing o t = by_tests_lem o t
+  pub row_missing : other_call c e ≡ false → (row_for c e).taken ≡ false → decided c e b ≡ refusal 6 c b
+  row_missing o t = by_tests_lem o t
 
-  pub carried-whole : length (bytes_at c e) ≤ length b → carried c (row_for c e) b ≡ taking c e b
+  pub carried_whole : length (bytes_at c e) ≤ length b → carried c (row_for c e) b ≡ taking c e b
   unfolding carried
-  carried-whole room = ap (λ (x : Bool). cond x (taking c e b) (refusal 7 c b)) (le-leb _ _ room)
+  carried_whole room = ap (λ (x : Bool). cond x (taking c e b) (refusal 7 c b)) (le-leb _ _ room)
 
-  by-room : (r : Bool) → leb (length (bytes_at c e)) (length b) ≡ r → (row_for c e).taken ≡ true → other_call c e ≡ false → over_transmission c e ≡ false → Decides c e b
+  by_room : (r : Bool) → leb (length (bytes_at c e)) (length b) ≡ r → (row_for c e).taken ≡ true → other_call c e ≡ false → over_transmission c e ≡ false → Decides c e b
   unfolding carried
-  by-room true r t o s = takes t (leb-true _ _ r) (row_carried o t s ∙ carried-whole (leb-true _ _ r))
-  by-room false r t o s =
+  by_room true r t o s = takes t (leb-true _ _ r) (row_carried o t s ∙ carried_whole (leb-true _ _ r))
+  by_room false r t o s =
       refuses 7 (lit≤ tt) (row_carried o t s ∙ ap (λ (x : Bool). cond x (taking c e b) (refusal 7 c b)) r)
 
   by_transmission : (s : Bool) → over_transmission c e ≡ s → (row_for c e).taken ≡ true → other_call c e ≡ false → Decides c e b
   by_transmission true s t o = refuses 8 (lit≤ tt) (by_tests_lem o t ∙ ap rowed s)
-  by_transmission false s t o = by-room (leb (length (bytes_at c e)) (length b)) refl t o s
+  by_transmission false s t o = by_room (leb (length (bytes_at c e)) (length b)) refl t o s
 
   by_row : (t : Bool) → (row_for c e).taken ≡ t → other_call c e ≡ false → Decides c e b
   by_row true t o = by_transmission (over_transmission c e) refl t o
-  by_row false t o = refuses 6 (lit≤ tt) (row-missing o t)
+  by_row false t o = refuses 6 (lit≤ tt) (row_missing o t)
 
   by_call : (o : Bool) → other_call c e ≡ o → Decides c e b
   unfolding decided
@@ -84,7 +84,7 @@ module _ (c : Call) (e : Event) (b : List ℕ) where
     where
       counts : Decides c e b → o.count ≤ 122
       counts (refuses n z d) = rw (is, d) (omega arith)
-      counts (takes t f d) = rw (is, d) (messages-small (row_for c e))
+      counts (takes t f d) = rw (is, d) (messages_small (row_for c e))
 
 -- ---- bytes and lists
 
@@ -92,9 +92,9 @@ four : (m : Message) → 4 ≤ length (message_bytes m)
 unfolding message_bytes flat_size
 four m = rw (length-flat_bytes (flat messages m)) (omega arith)
 
-pub place-size : (k : ℕ) → length (message_bytes (Message.Place k)) ≡ 5
+pub place_size : (k : ℕ) → length (message_bytes (Message.Place k)) ≡ 5
 unfolding message_bytes flat_size
-place-size k = length-flat_bytes (flat messages (Message.Place k))
+place_size k = length-flat_bytes (flat messages (Message.Place k))
 
 -- some messages are no bytes only where there is no message
 pub no_bytes : (ms : List Message) → length (bytes_of ms) ≡ 0 → ms ≡ []
@@ -102,42 +102,42 @@ unfolding bytes_of
 no_bytes [] h = refl
 no_bytes (m ∷ ms) h = absurd (omega (arith, h, length-append (message_bytes m) (bytes_of ms), four m))
 
-pub behind-some : (k : ℕ) (ms : List Message) → (length (bytes_of ms) ≡ 0 → ⊥)
+pub behind_some : (k : ℕ) (ms : List Message) → (length (bytes_of ms) ≡ 0 → ⊥)
     → bytes_of (behind k ms) ≡ message_bytes (Message.Place k) ++ bytes_of ms
 unfolding bytes_of
-behind-some k [] some = absurd (some refl)
-behind-some k (m ∷ ms) some = refl
+behind_some k [] some = absurd (some refl)
+behind_some k (m ∷ ms) some = refl
 
 -- the part of a buffer from a position on, lent and put back
-pub part-whole : (b : List ℕ) (h : ℕ) → take (length b - h) (drop h b) ≡ drop h b
-part-whole b h = take_all (length b - h) (drop h b) (rw (length-drop h b) (omega arith))
+pub part_whole : (b : List ℕ) (h : ℕ) → take (length b - h) (drop h b) ≡ drop h b
+part_whole b h = take_all (length b - h) (drop h b) (rw (length-drop h b) (omega arith))
 
 pub put_whole : (b y : List ℕ) (h : ℕ) → put_mid h (length b - h) b y ≡ take h b ++ y
 put_whole b y h =
     let none : drop (length b - h) (drop h b) ≡ [] = drop_of_length-le (drop h b) {i = length b - h} (rw (length-drop h b) (omega arith)) in
     rw (none, append-nil y)
 
-short-drop : (b : List ℕ) (t : Bool) → ltb (length b) 5 ≡ t → drop (cond t (length b) 5) b ≡ drop 5 b
-short-drop b true e = drop_of_length-le b {i = length b} (omega arith) ∙ sym (drop_of_length-le b {i = 5} (omega (arith, ltb-true (length b) 5 e)))
-short-drop b false e = refl
+short_drop : (b : List ℕ) (t : Bool) → ltb (length b) 5 ≡ t → drop (cond t (length b) 5) b ≡ drop 5 b
+short_drop b true e = drop_of_length-le b {i = length b} (omega arith) ∙ sym (drop_of_length-le b {i = 5} (omega (arith, ltb-true (length b) 5 e)))
+short_drop b false e = refl
 
 head_drop : (b : List ℕ) {h : ℕ} → h ≡ head_room (length b) → drop h b ≡ drop 5 b
-head_drop b is = ap (λ (n : ℕ). drop n b) is ∙ short-drop b (ltb (length b) 5) refl
+head_drop b is = ap (λ (n : ℕ). drop n b) is ∙ short_drop b (ltb (length b) 5) refl
 
-short-fits : (n : ℕ) (t : Bool) → ltb n 5 ≡ t → cond t n 5 ≤ n
-short-fits n true e = omega arith
-short-fits n false e = ltb-false n 5 e
+short_fits : (n : ℕ) (t : Bool) → ltb n 5 ≡ t → cond t n 5 ≤ n
+short_fits n true e = omega arith
+short_fits n false e = ltb-false n 5 e
 
 pub head_fits : (n : ℕ) {h : ℕ} → h ≡ head_room n → h ≤ n
-head_fits n is = rw is (short-fits n (ltb n 5) refl)
+head_fits n is = rw is (short_fits n (ltb n 5) refl)
 
 -- what is stored at the front
 front : (l vs : List ℕ) → length vs ≤ length l → sets l 0 vs ≡ vs ++ drop (length vs) l
 front l vs h = rw zero-add at (sets-eq vs l 0 (omega arith))
 
 -- what is stored from a position on
-pub stored-part : (b vs : List ℕ) (at : ℕ) → at + length vs ≤ length b → take at b ++ sets (drop at b) 0 vs ≡ sets b at vs
-stored-part b vs at h =
+pub stored_part : (b vs : List ℕ) (at : ℕ) → at + length vs ≤ length b → take at b ++ sets (drop at b) 0 vs ≡ sets b at vs
+stored_part b vs at h =
     rw (front (drop at b) vs (rw (length-drop at b) (omega arith)), drop-drop (length vs) at b, sets-eq vs b at h, append_assoc)
 
 -- the record that names the place goes in front of what the step has stored
@@ -161,24 +161,24 @@ lay_head hd bs b five room =
 -- ---- the step of one place
 
 module _ (k : ℕ) (c : Call) (e : Event) (b : List ℕ) where
-  pub placed-refuses : (n : ℕ) → 5 ≤ n → decided c e (drop 5 b) ≡ refusal n c (drop 5 b) → refusal n c b ≡ placed k c e b
+  pub placed_refuses : (n : ℕ) → 5 ≤ n → decided c e (drop 5 b) ≡ refusal n c (drop 5 b) → refusal n c b ≡ placed k c e b
   unfolding placed
-  placed-refuses n z d = rw (d, ne_eqb n 0 (λ is. omega arith))
+  placed_refuses n z d = rw (d, ne_eqb n 0 (λ is. omega arith))
 
-  pub placed-takes : decided c e (drop 5 b) ≡ taking c e (drop 5 b)
+  pub placed_takes : decided c e (drop 5 b) ≡ taking c e (drop 5 b)
       → ◌≡◌ {A = Outcome} (record { answer = 0; place = 0; call = (row_for c e).call; count = length (bytes_of (writes k c e)); buffer = sets b 0 (bytes_of (writes k c e)) }) (placed k c e b)
   unfolding placed
-  placed-takes d = rw d
+  placed_takes d = rw d
 
   module _ {h : ℕ} (head : h ≡ head_room (length b)) {o : Outcome} (step : o ≡ decided c e (take (length b - h) (drop h b))) where
-    step-behind : o ≡ decided c e (drop 5 b)
-    step-behind = step ∙ ap (λ (z : List ℕ). decided c e z) (part-whole b h ∙ head_drop b head)
+    step_behind : o ≡ decided c e (drop 5 b)
+    step_behind = step ∙ ap (λ (z : List ℕ). decided c e z) (part_whole b h ∙ head_drop b head)
 
     put_back : put_mid h (length b - h) b (drop 5 b) ≡ b
     put_back = put_whole b (drop 5 b) h ∙ ap (λ (z : List ℕ). take h b ++ z) (sym (head_drop b head)) ∙ take-append-drop h b
 
     pub step_few : o.count ≤ 122
-    step_few = few c e (drop 5 b) step-behind
+    step_few = few c e (drop 5 b) step_behind
 
     -- what a step gives back, its buffer put back into the whole
     abbrev step_left : Outcome → Outcome
@@ -193,18 +193,18 @@ module _ (k : ℕ) (c : Call) (e : Event) (b : List ℕ) where
     -- a refusal, and a row that writes nothing, leave the buffer
     pub unwritten : o.count ≡ 0 → Unwritten
     unfolding bytes_of
-    unwritten none = by-step (decides c e (drop 5 b))
+    unwritten none = by_step (decides c e (drop 5 b))
       where
-        by-step : Decides c e (drop 5 b) → Unwritten
-        by-step (refuses n z d) = rw (step-behind ∙ d, put_back) (placed-refuses n z d)
-        by-step (takes t f d) =
-            let is : o ≡ taking c e (drop 5 b) = step-behind ∙ d in
+        by_step : Decides c e (drop 5 b) → Unwritten
+        by_step (refuses n z d) = rw (step_behind ∙ d, put_back) (placed_refuses n z d)
+        by_step (takes t f d) =
+            let is : o ≡ taking c e (drop 5 b) = step_behind ∙ d in
             let empty : messages_in (row_for c e) ≡ [] = no_bytes (messages_in (row_for c e)) (ap (λ (w : Outcome). w.count) (sym is) ∙ none) in
             ap (λ (w : Outcome). step_left w) is
             ∙ ap (λ (ms : List Message). given (length (bytes_of ms)) (put_mid h (length b - h) b (sets (drop 5 b) 0 (bytes_of ms)))) empty
             ∙ ap (λ (z : List ℕ). given 0 z) put_back
             ∙ sym (ap (λ (ms : List Message). given (length (bytes_of (behind k ms))) (sets b 0 (bytes_of (behind k ms)))) empty)
-            ∙ placed-takes d
+            ∙ placed_takes d
 
     abbrev Written : ℕ → List ℕ → Type 0
     Written n after = ◌≡◌ {A = Outcome} (record { answer = o.answer; place = o.place; call = o.call; count = n; buffer = after }) (placed k c e b)
@@ -212,24 +212,24 @@ module _ (k : ℕ) (c : Call) (e : Event) (b : List ℕ) where
     -- what a row writes stands behind the record that names the place
     pub written : {n : ℕ} {after : List ℕ} → (o.count ≡ 0 → ⊥) → n ≡ headed o.count
         → after ≡ laid (message_bytes (Message.Place k)) (put_mid h (length b - h) b o.buffer) 0 → Written n after
-    written {n} {after} some size store = by-step (decides c e (drop 5 b))
+    written {n} {after} some size store = by_step (decides c e (drop 5 b))
       where
-        by-step : Decides c e (drop 5 b) → Written n after
-        by-step (refuses m z d) = absurd (some (ap (λ (w : Outcome). w.count) (step-behind ∙ d)))
-        by-step (takes t f d) =
-            let is : o ≡ taking c e (drop 5 b) = step-behind ∙ d in
+        by_step : Decides c e (drop 5 b) → Written n after
+        by_step (refuses m z d) = absurd (some (ap (λ (w : Outcome). w.count) (step_behind ∙ d)))
+        by_step (takes t f d) =
+            let is : o ≡ taking c e (drop 5 b) = step_behind ∙ d in
             let some_bytes : length (bytes_at c e) ≡ 0 → ⊥ = λ w. some (ap (λ (w : Outcome). w.count) is ∙ w) in
-            let all : bytes_of (writes k c e) ≡ message_bytes (Message.Place k) ++ bytes_at c e = behind-some k (messages_in (row_for c e)) some_bytes in
+            let all : bytes_of (writes k c e) ≡ message_bytes (Message.Place k) ++ bytes_at c e = behind_some k (messages_in (row_for c e)) some_bytes in
             let room : 5 + length (bytes_at c e) ≤ length b = (let l = length-drop 5 b in omega arith) in
             let five : h ≡ 5 = head ∙ ap (λ (t : Bool). cond t (length b) 5) (le-ltb (length b) 5 (omega arith)) in
             let count : n ≡ length (bytes_of (writes k c e)) =
             size ∙ ap (λ (w : Outcome). headed w.count) is ∙ ap (λ (t : Bool). cond t 0 (5 + length (bytes_at c e))) (ne_eqb _ _ some_bytes)
-            ∙ sym (ap length all ∙ length-append (message_bytes (Message.Place k)) (bytes_at c e) ∙ ap (λ (m : ℕ). m + length (bytes_at c e)) (place-size k)) in
+            ∙ sym (ap length all ∙ length-append (message_bytes (Message.Place k)) (bytes_at c e) ∙ ap (λ (m : ℕ). m + length (bytes_at c e)) (place_size k)) in
             let after_is : after ≡ sets b 0 (bytes_of (writes k c e)) =
             store
             ∙ ap (λ (w : Outcome). laid (message_bytes (Message.Place k)) (put_mid h (length b - h) b w.buffer) 0) is
             ∙ ap (λ (z : List ℕ). laid (message_bytes (Message.Place k)) z 0)
             (put_whole b (sets (drop 5 b) 0 (bytes_at c e)) h ∙ ap (λ (m : ℕ). take m b ++ sets (drop 5 b) 0 (bytes_at c e)) five)
-            ∙ lay_head (message_bytes (Message.Place k)) (bytes_at c e) b (place-size k) room
+            ∙ lay_head (message_bytes (Message.Place k)) (bytes_at c e) b (place_size k) room
             ∙ ap (λ (z : List ℕ). sets b 0 z) (sym all) in
-            rw (is, count, after_is) (placed-takes d)
+            rw (is, count, after_is) (placed_takes d)

@@ -17,7 +17,7 @@ use Rattle.callcontrol.specs.Call.{runs, T306, T311}
 use Rattle.callcontrol.specs.Draft.{Draft}
 use Rattle.callcontrol.specs.Rows.{row_for}
 use Rattle.callcontrol.specs.Writing.{messages_in, bytes_of, count_of}
-use Rattle.callcontrol.proofs.Laying.{size-messages, size-append}
+use Rattle.callcontrol.proofs.Laying.{size_messages, size-append}
 use Rattle.callcontrol.proofs.Verbs.{verbs}
 use Rattle.demands.specs.Demands.{Kept}
 use Rattle.demands.proofs.Bound.{slot, slot_size}
@@ -29,10 +29,10 @@ use Rattle.console.specs.Table.{call_at, table_sound}
 use Rattle.console.specs.Route.{aim_of}
 use Rattle.console.specs.Console.{ConsoleOutcome, takes, writes, part, placed, at_place, everywhere, writes_from, console_of}
 use Rattle.console.specs.Runs.{ConsoleTurn, console_outcome}
-use Rattle.console.proofs.Placing.{bytes_at, Decides, decides, placed-refuses, placed-takes}
+use Rattle.console.proofs.Placing.{bytes_at, Decides, decides, placed_refuses, placed_takes}
 use Rattle.console.proofs.Tables.{eight_of}
-use Rattle.console.proofs.Turns.{Everywhere, everywhere_does, none-takes, no_room, all_take, Came, came, unsound, unread, routes}
-use Rattle.console.proofs.Everywhere.{part-size, part_few, every-is}
+use Rattle.console.proofs.Turns.{Everywhere, everywhere_does, none_takes, no_room, all_take, Came, came, unsound, unread, routes}
+use Rattle.console.proofs.Everywhere.{part_size, part_few, every_is}
 
 -- ---- how many bytes a row writes, by its parts
 
@@ -42,7 +42,7 @@ cost x =
 
 cost_is : (x : Draft) → length (bytes_of (messages_in x)) ≡ cost x
 unfolding cost
-cost_is x = omega (arith, size-messages x, slot_size x.pdu, slot_size x.user)
+cost_is x = omega (arith, size_messages x, slot_size x.pdu, slot_size x.user)
 
 -- ---- the rows of BREAK and RESUME, each in its situation
 
@@ -52,7 +52,7 @@ break_cost Row.breaks (up l transmit n) = refl
 break_cost Row.breaks (up l receive n) = refl
 break_cost Row.breaks (up l duplex n) = refl
 break_cost Row.breaks (up l none n) = refl
-break_cost Row.breaks-again (restoring l n) = refl
+break_cost Row.breaks_again (restoring l n) = refl
 break_cost Row.breaks_paused (wait l k n) = refl
 
 resume_cost : {c : Call} {s : State} {w : Path} {x : Draft} → Row c s w Event.Resume x → At s w c → leb (cost x) 18 ≡ true
@@ -65,21 +65,21 @@ resume_cost Row.resumes (broken l n) = refl
 abbrev still : Call → Bool
 still c = get_or (set c.timers T306 false) T311 false
 
-break-any : {c : Call} {s : State} {w : Path} {x : Draft} → Row c s w Event.Break x → (a b d : Bool) → runs c T306 ≡ a → runs c T311 ≡ b → still c ≡ d
+break_any : {c : Call} {s : State} {w : Path} {x : Draft} → Row c s w Event.Break x → (a b d : Bool) → runs c T306 ≡ a → runs c T311 ≡ b → still c ≡ d
     → leb (cost x) 18 ≡ true
 unfolding cost verbs count_of message_size flat_size
-break-any Row.breaks a true d p q r = rw q
-break-any Row.breaks a false d p q r = rw q
-break-any Row.breaks-again true b true p q r = rw (p, r)
-break-any Row.breaks-again true b false p q r = rw (p, r)
-break-any Row.breaks-again false b true p q r = rw (p, r)
-break-any Row.breaks-again false b false p q r = rw (p, r)
-break-any Row.breaks_paused a true d p q r = rw q
-break-any Row.breaks_paused a false d p q r = rw q
+break_any Row.breaks a true d p q r = rw q
+break_any Row.breaks a false d p q r = rw q
+break_any Row.breaks_again true b true p q r = rw (p, r)
+break_any Row.breaks_again true b false p q r = rw (p, r)
+break_any Row.breaks_again false b true p q r = rw (p, r)
+break_any Row.breaks_again false b false p q r = rw (p, r)
+break_any Row.breaks_paused a true d p q r = rw q
+break_any Row.breaks_paused a false d p q r = rw q
 
-resume-any : {c : Call} {s : State} {w : Path} {x : Draft} → Row c s w Event.Resume x → leb (cost x) 18 ≡ true
+resume_any : {c : Call} {s : State} {w : Path} {x : Draft} → Row c s w Event.Resume x → leb (cost x) 18 ≡ true
 unfolding cost verbs count_of message_size flat_size
-resume-any Row.resumes = refl
+resume_any Row.resumes = refl
 
 headed_most : (n m : ℕ) (z : Bool) → n ≤ m → cond z 0 (5 + n) ≤ 5 + m
 headed_most n m true h = omega arith
@@ -88,16 +88,16 @@ headed_most n m false h = omega arith
 -- what a place writes, from what its step writes
 pub written_most : (k : ℕ) (c : Call) (e : Event) (m : ℕ) → takes e c ≡ true → length (bytes_at c e) ≤ m → length (bytes_of (writes k c e)) ≤ 5 + m
 written_most k c e m t most =
-    rw (sym (ap (λ (x : Bool). length (bytes_of (cond x (writes k c e) []))) t) ∙ part-size c e k true t)
+    rw (sym (ap (λ (x : Bool). length (bytes_of (cond x (writes k c e) []))) t) ∙ part_size c e k true t)
     (headed_most (length (bytes_at c e)) m (eqb (length (bytes_at c e)) 0) most)
 
 -- and from what its row costs
 part_most : (k : ℕ) (c : Call) (e : Event) (m : ℕ) (t : Bool) → takes e c ≡ t → (takes e c ≡ true → leb (cost (row_for c e)) m ≡ true)
     → length (bytes_of (part k c e)) ≤ 5 + m
 part_most k c e m true t f =
-    rw (part-size c e k true t)
+    rw (part_size c e k true t)
     (headed_most (length (bytes_at c e)) m (eqb (length (bytes_at c e)) 0) (rw (cost_is (row_for c e)) (leb-true (cost (row_for c e)) m (f t))))
-part_most k c e m false t f = rw (part-size c e k false t) (omega arith)
+part_most k c e m false t f = rw (part_size c e k false t) (omega arith)
 
 -- ---- all places
 
@@ -109,34 +109,34 @@ all_most e m i (c ∷ cs) f =
     omega (arith, size-append (part i c e) (writes_from (suc i) cs e), f 0 i (omega arith), all_most e m (suc i) cs (λ n k lt. f (suc n) k (omega arith)))
 
 -- BREAK and RESUME at every place of any table of eight
-pub every-room : (calls : List Call) (e : Event) → aim_of e ≡ Aim.Every → length calls ≤ 8 → length (bytes_of (writes_from 0 calls e)) ≤ 184
-every-room calls e every eight =
+pub every_room : (calls : List Call) (e : Event) → aim_of e ≡ Aim.Every → length calls ≤ 8 → length (bytes_of (writes_from 0 calls e)) ≤ 184
+every_room calls e every eight =
     let w = all_most e 23 0 calls (λ n k lt. part_most k (call_at calls n) e 18 (takes e (call_at calls n)) refl (any (call_at calls n))) in
     omega arith
   where
     any : (c : Call) → takes e c ≡ true → leb (cost (row_for c e)) 18 ≡ true
     any c =
-        every-is (λ v. takes v c ≡ true → leb (cost (row_for c v)) 18 ≡ true)
-        (λ t. break-any (is_row c Event.Break t) (runs c T306) (runs c T311) (still c) refl refl refl)
-        (λ t. resume-any (is_row c Event.Resume t))
+        every_is (λ v. takes v c ≡ true → leb (cost (row_for c v)) 18 ≡ true)
+        (λ t. break_any (is_row c Event.Break t) (runs c T306) (runs c T311) (still c) refl refl refl)
+        (λ t. resume_any (is_row c Event.Resume t))
         e every
 
 -- so they have room in our own buffer
 pub own_room : (calls : List Call) (e : Event) (own : List ℕ) → aim_of e ≡ Aim.Every → length calls ≡ 8 → 184 ≡ length own
     → length (bytes_of (writes_from 0 calls e)) ≤ length own
-own_room calls e own every eight size = let w = every-room calls e every (omega arith) in omega arith
+own_room calls e own every eight size = let w = every_room calls e every (omega arith) in omega arith
 
 module _ (calls : List Call) (eight : length calls ≡ 8) (kept : (k : ℕ) → k < 8 → Kept (call_at calls k)) where
-  pub break-room : length (bytes_of (writes_from 0 calls Event.Break)) ≤ 128
-  break-room =
+  pub break_room : length (bytes_of (writes_from 0 calls Event.Break)) ≤ 128
+  break_room =
       let w = all_most Event.Break 16 0 calls
       (λ n k lt.
       let c = call_at calls n in
       part_most k c Event.Break 11 (takes Event.Break c) refl (λ t. break_cost (is_row c Event.Break t) (situated c (kept n (omega arith))))) in
       omega arith
 
-  pub resume-room : length (bytes_of (writes_from 0 calls Event.Resume)) ≤ 184
-  resume-room =
+  pub resume_room : length (bytes_of (writes_from 0 calls Event.Resume)) ≤ 184
+  resume_room =
       let w = all_most Event.Resume 23 0 calls
       (λ n k lt.
       let c = call_at calls n in
@@ -149,10 +149,10 @@ pub place_few : (k : ℕ) (c : Call) (e : Event) (b : List ℕ) → (placed k c 
 place_few k c e b = by (decides c e (drop 5 b))
   where
     by : Decides c e (drop 5 b) → (placed k c e b).count ≤ 127
-    by (Decides.refuses n z d) = rw (← placed-refuses k c e b n z d) (omega arith)
+    by (Decides.refuses n z d) = rw (← placed_refuses k c e b n z d) (omega arith)
     by (Decides.takes w f d) =
         let m = part_few k c e (takes e c) refl in
-        rw (← placed-takes k c e b d) (rw (ap (λ (x : Bool). length (bytes_of (cond x (writes k c e) []))) w) at m)
+        rw (← placed_takes k c e b d) (rw (ap (λ (x : Bool). length (bytes_of (cond x (writes k c e) []))) w) at m)
 
 pub console_few : (calls : List Call) (place : ℕ) (bytes b : List ℕ) {o : ConsoleOutcome} → o ≡ console_of calls place bytes b → o.count ≤ 1016
 unfolding console_outcome at_place
@@ -162,7 +162,7 @@ console_few calls place bytes b {o} is = rw is (by (came calls t))
     t = record { place = place; event = bytes; buffer = b }
 
     all : (e : Event) → table_sound calls ≡ true → Everywhere calls e b → (everywhere calls e b).count ≤ 1016
-    all e s (none-takes x d) = rw d (omega arith)
+    all e s (none_takes x d) = rw d (omega arith)
     all e s (no_room x f d) = rw d (omega arith)
     all e s (all_take x f d) =
         let n = eight_of calls s in

@@ -12,10 +12,10 @@ use Rattle.callcontrol.specs.Call.{sound}
 use Rattle.demands.proofs.Facts.{left, right}
 use Rattle.console.specs.Table.{call_at, some?, every?, apart, table_sound}
 
-every-at : (p : Call → Bool) (calls : List Call) (k : ℕ) → k < length calls → every? p calls ≡ true → p (call_at calls k) ≡ true
-every-at p (c ∷ calls) zero lt h = left (p c) (every? p calls) h
-every-at p (c ∷ calls) (suc k) lt h = every-at p calls k (omega arith) (right (p c) (every? p calls) h)
-every-at p [] k lt h = absurd (omega arith)
+every_at : (p : Call → Bool) (calls : List Call) (k : ℕ) → k < length calls → every? p calls ≡ true → p (call_at calls k) ≡ true
+every_at p (c ∷ calls) zero lt h = left (p c) (every? p calls) h
+every_at p (c ∷ calls) (suc k) lt h = every_at p calls k (omega arith) (right (p c) (every? p calls) h)
+every_at p [] k lt h = absurd (omega arith)
 
 pub some_at : (p : Call → Bool) (calls : List Call) (k : ℕ) → k < length calls → p (call_at calls k) ≡ true → some? p calls ≡ true
 some_at p (c ∷ calls) zero lt h = rw h
@@ -31,14 +31,14 @@ module _ (calls : List Call) (ok : table_sound calls ≡ true) where
   unfolding table_sound
   eight_of = eqb-true (length calls) 8 (left (eqb (length calls) 8) (every? sound calls && apart calls) ok)
 
-  pub sound-all : every? sound calls ≡ true
+  pub sound_all : every? sound calls ≡ true
   unfolding table_sound
-  sound-all = left (every? sound calls) (apart calls) (right (eqb (length calls) 8) (every? sound calls && apart calls) ok)
+  sound_all = left (every? sound calls) (apart calls) (right (eqb (length calls) 8) (every? sound calls && apart calls) ok)
 
-  pub apart-all : apart calls ≡ true
+  pub apart_all : apart calls ≡ true
   unfolding table_sound
-  apart-all = right (every? sound calls) (apart calls) (right (eqb (length calls) 8) (every? sound calls && apart calls) ok)
+  apart_all = right (every? sound calls) (apart calls) (right (eqb (length calls) 8) (every? sound calls && apart calls) ok)
 
 module _ (calls : List Call) (k : ℕ) where
-  pub sound-at : table_sound calls ≡ true → k < 8 → sound (call_at calls k) ≡ true
-  sound-at ok below = let n = eight_of calls ok in every-at sound calls k (omega arith) (sound-all calls ok)
+  pub sound_at : table_sound calls ≡ true → k < 8 → sound (call_at calls k) ≡ true
+  sound_at ok below = let n = eight_of calls ok in every_at sound calls k (omega arith) (sound_all calls ok)

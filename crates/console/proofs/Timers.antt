@@ -25,19 +25,19 @@ use Rattle.console.specs.Console.{refuses_at, refuses}
 use Rattle.console.specs.Runs.{ConsoleTurn, console_outcome, console_run, lent_behind, went_to, went_in}
 use Rattle.console.specs.Demands as claims
 use Rattle.console.proofs.Answering.{answers_in_run, behind_five}
-use Rattle.console.proofs.Demands.{table-sound, records, split, went-append, went_one, refuses-whole, place_only_with_four}
-use Rattle.console.proofs.Heard.{messages-at}
+use Rattle.console.proofs.Demands.{table_sound_lem, records, split, went-append, went_one, refuses_whole, place_only_with_four}
+use Rattle.console.proofs.Heard.{messages_at}
 use Rattle.console.proofs.Turns.{run-append}
-use Rattle.console.proofs.Went.{went-routed}
+use Rattle.console.proofs.Went.{went_routed}
 
-pub timers-by-messages-at : claims.TimersByMessagesAt
-timers-by-messages-at ts k lt = step-demands.timers-by-messages (claims.turns_at k ts) ∙ ap (λ (c : Call). c.timers) (sym (records ts k lt))
+pub timers_by_messages_at : claims.TimersByMessagesAt
+timers_by_messages_at ts k lt = step-demands.timers_by_messages (claims.turns_at k ts) ∙ ap (λ (c : Call). c.timers) (sym (records ts k lt))
 
-pub timers-at : claims.TimersAt
-timers-at ts k lt = rw (records ts k lt) (step-demands.timers (claims.turns_at k ts))
+pub timers_at : claims.TimersAt
+timers_at ts k lt = rw (records ts k lt) (step-demands.timers (claims.turns_at k ts))
 
-pub sent-before-t302-at : claims.SentBeforeT302At
-sent-before-t302-at ts k lt = rw (records ts k lt) (step-demands.sent-before-t302 (claims.turns_at k ts))
+pub sent_before_t302_at : claims.SentBeforeT302At
+sent_before_t302_at ts k lt = rw (records ts k lt) (step-demands.sent_before_t302 (claims.turns_at k ts))
 
 pub none_in_idle_at : claims.NoneInIdleAt
 none_in_idle_at ts k lt idle = step-demands.none_in_idle (claims.turns_at k ts) (ap (λ (c : Call). is_idle c) (sym (records ts k lt)) ∙ idle)
@@ -61,7 +61,7 @@ module _ (ts : List ConsoleTurn) (t : ConsoleTurn) (e : Event) (lt : t.place < 8
 
   went_there : went_to t.place (claims.after ts) t ≡ lent_behind 0 t ∷ []
   went_there =
-      went-routed (claims.after ts) t t.place (table-sound ts) reads to_it
+      went_routed (claims.after ts) t t.place (table_sound_lem ts) reads to_it
       ∙ ap (λ (x : Bool). cond x (lent_behind 0 t ∷ []) []) (eq-eqb t.place t.place refl)
 
   answer_there : (console_outcome (claims.after ts) t).answer ≡ (outcome (run fresh_call (claims.turns_at t.place ts)) (lent_behind 0 t)).answer
@@ -70,24 +70,24 @@ module _ (ts : List ConsoleTurn) (t : ConsoleTurn) (e : Event) (lt : t.place < 8
 refused_6 : (ts : List ConsoleTurn) (t : ConsoleTurn) → (console_outcome (claims.after ts) t).answer ≡ 6
     → console_outcome (claims.after ts) t ≡ refuses 6 (claims.after ts) t.buffer
 refused_6 ts t six =
-    refuses-whole (claims.after ts) t 6 six (λ z. omega arith)
+    refuses_whole (claims.after ts) t 6 six (λ z. omega arith)
     ∙ ap (λ (p : ℕ). refuses_at 6 p (claims.after ts) t.buffer) (place_only_with_four (claims.after ts) t (λ four. omega arith))
 
-pub late-expiry-at : claims.LateExpiryAt
-late-expiry-at ts t n lt reads late =
+pub late_expiry_at : claims.LateExpiryAt
+late_expiry_at ts t n lt reads late =
     let calls = claims.after ts in
     let six : (console_outcome calls t).answer ≡ 6 =
     answer_there ts t (Event.Expiry n) lt reads refl
-    ∙ ap (λ (o : Outcome). o.answer) (step-demands.late-expiry (claims.turns_at t.place ts) (lent_behind 0 t) n reads late) in
+    ∙ ap (λ (o : Outcome). o.answer) (step-demands.late_expiry (claims.turns_at t.place ts) (lent_behind 0 t) n reads late) in
     refused_6 ts t six
 
-pub due-expiry-at : claims.DueExpiryAt
-due-expiry-at ts t n lt reads runs lent =
+pub due_expiry_at : claims.DueExpiryAt
+due_expiry_at ts t n lt reads runs lent =
     let before = claims.turns_at t.place ts in
     let v = lent_behind 0 t in
     answer_there ts t (Event.Expiry n) lt reads refl
     ∙ ap (λ (o : Outcome). o.answer)
-    (accepts (run fresh_call before) v (Event.Expiry n) (step-demands.due-expiry before v n reads runs (behind_five t.buffer lent))).gives
+    (accepts (run fresh_call before) v (Event.Expiry n) (step-demands.due_expiry before v n reads runs (behind_five t.buffer lent))).gives
 
 pub release_leaves_fresh_at : claims.ReleaseLeavesFreshAt
 release_leaves_fresh_at ts us t u lt same asks between lapses room room' =
@@ -115,16 +115,16 @@ release_leaves_fresh_at ts us t u lt same asks between lapses room room' =
 pub at_most_three_due_at : claims.AtMostThreeDueAt
 at_most_three_due_at ts us k h = step-demands.at_most_three_due (claims.turns_at k ts) (went_in k (claims.after ts) us) h
 
-pub none-after-three-at : claims.NoneAfterThreeAt
-none-after-three-at ts us k h three =
+pub none_after_three_at : claims.NoneAfterThreeAt
+none_after_three_at ts us k h three =
     ap (λ (z : List Turn). running_by (log_in fresh_call z)) (went-append k fresh_table ts us)
-    ∙ step-demands.none-after-three (claims.turns_at k ts) (went_in k (claims.after ts) us) h three
+    ∙ step-demands.none_after_three (claims.turns_at k ts) (went_in k (claims.after ts) us) h three
 
-pub none-runs-at : claims.NoneRunsAt
-none-runs-at ts k lt h = rw (records ts k lt) (step-demands.none_runs_lem (claims.turns_at k ts) h)
+pub none_runs_at : claims.NoneRunsAt
+none_runs_at ts k lt h = rw (records ts k lt) (step-demands.none_runs_lem (claims.turns_at k ts) h)
 
 pub starts_with_limit_at : claims.StartsWithLimitAt
-starts_with_limit_at ts k lt = rw (messages-at ts k lt) (step-demands.starts_with_limit fresh_call (claims.turns_at k ts))
+starts_with_limit_at ts k lt = rw (messages_at ts k lt) (step-demands.starts_with_limit fresh_call (claims.turns_at k ts))
 
 pub no_limit_no_expiry_at : claims.NoLimitNoExpiryAt
 no_limit_no_expiry_at ts t lt h reads =

@@ -27,7 +27,7 @@ all_taken calls e b =
     record { answer = 0; place = 0; calls = all_next calls e; count = length (bytes_of (writes_from 0 calls e)); buffer = sets b 0 (bytes_of (writes_from 0 calls e)) }
 
 pub data Everywhere (calls : List Call) (e : Event) (b : List ℕ) : Type 0 where
-  none-takes : some? (takes e) calls ≡ false → everywhere calls e b ≡ refuses 6 calls b → Everywhere calls e b
+  none_takes : some? (takes e) calls ≡ false → everywhere calls e b ≡ refuses 6 calls b → Everywhere calls e b
   no_room : some? (takes e) calls ≡ true → all_fits calls e b ≡ false → everywhere calls e b ≡ refuses 7 calls b → Everywhere calls e b
   all_take : some? (takes e) calls ≡ true → all_fits calls e b ≡ true → everywhere calls e b ≡ all_taken calls e b → Everywhere calls e b
 
@@ -36,7 +36,7 @@ unfolding everywhere
 everywhere_does calls e b = by (some? (takes e) calls) (all_fits calls e b) refl refl
   where
     by : (s f : Bool) → some? (takes e) calls ≡ s → all_fits calls e b ≡ f → Everywhere calls e b
-    by false f s r = none-takes s (ap (λ (x : Bool). cond x (cond (all_fits calls e b) (all_taken calls e b) (refuses 7 calls b)) (refuses 6 calls b)) s)
+    by false f s r = none_takes s (ap (λ (x : Bool). cond x (cond (all_fits calls e b) (all_taken calls e b) (refuses 7 calls b)) (refuses 6 calls b)) s)
     by true false s r =
         no_room s r
         (ap (λ (x : Bool). cond x (cond (all_fits calls e b) (all_taken calls e b) (refuses 7 calls b)) (refuses 6 calls b)) s
@@ -46,10 +46,10 @@ everywhere_does calls e b = by (some? (takes e) calls) (all_fits calls e b) refl
         (ap (λ (x : Bool). cond x (cond (all_fits calls e b) (all_taken calls e b) (refuses 7 calls b)) (refuses 6 calls b)) s
         ∙ ap (λ (x : Bool). cond x (all_taken calls e b) (refuses 7 calls b)) r)
 
-pub next-at : (calls : List Call) (e : Event) (k : ℕ) → k < length calls → call_at (all_next calls e) k ≡ next_of e (call_at calls k)
-next-at [] e k lt = absurd (omega arith)
-next-at (c ∷ calls) e zero lt = refl
-next-at (c ∷ calls) e (suc k) lt = next-at calls e k (omega arith)
+pub next_at : (calls : List Call) (e : Event) (k : ℕ) → k < length calls → call_at (all_next calls e) k ≡ next_of e (call_at calls k)
+next_at [] e k lt = absurd (omega arith)
+next_at (c ∷ calls) e zero lt = refl
+next_at (c ∷ calls) e (suc k) lt = next_at calls e k (omega arith)
 
 -- ---- a turn
 
@@ -61,25 +61,25 @@ pub data Came (calls : List Call) (t : ConsoleTurn) : Type 0 where
       → console_outcome calls t ≡ routed r calls e t.buffer → Came calls t
 
 module _ (calls : List Call) (t : ConsoleTurn) where
-  came-by : (ok : Bool) (r : Read Event) → table_sound calls ≡ ok → read events t.event ≡ r
+  came_by : (ok : Bool) (r : Read Event) → table_sound calls ≡ ok → read events t.event ≡ r
       → console_outcome calls t ≡ cond ok (console.when_read r calls t.place t.buffer) (refuses 1 calls t.buffer) → Came calls t
-  came-by false r s h o = unsound s o
-  came-by true (refused n p) s h o = unread n p s h o
-  came-by true (taken e) s h o = routes e (route_of calls t.place e) s h refl o
+  came_by false r s h o = unsound s o
+  came_by true (refused n p) s h o = unread n p s h o
+  came_by true (taken e) s h o = routes e (route_of calls t.place e) s h refl o
 
   pub came : Came calls t
   unfolding console_outcome console_of
-  came = came-by (table_sound calls) (read events t.event) refl refl refl
+  came = came_by (table_sound calls) (read events t.event) refl refl refl
 
-  pub next-is : {o : ConsoleOutcome} → console_outcome calls t ≡ o → console_next calls t ≡ o.calls
+  pub next_is : {o : ConsoleOutcome} → console_outcome calls t ≡ o → console_next calls t ≡ o.calls
   unfolding console_next
-  next-is g = ap (λ (o : ConsoleOutcome). o.calls) g
+  next_is g = ap (λ (o : ConsoleOutcome). o.calls) g
 
 -- where it goes
-pub routed-is : (calls : List Call) (t : ConsoleTurn) {e : Event} {r : Route} → table_sound calls ≡ true → read events t.event ≡ taken e → route_of calls t.place e ≡ r
+pub routed_is : (calls : List Call) (t : ConsoleTurn) {e : Event} {r : Route} → table_sound calls ≡ true → read events t.event ≡ taken e → route_of calls t.place e ≡ r
     → console_outcome calls t ≡ routed r calls e t.buffer
 unfolding console_outcome console_of
-routed-is calls t s h r = rw (s, h, r)
+routed_is calls t s h r = rw (s, h, r)
 
 -- what it does to the table
 pub data Turned (calls : List Call) (t : ConsoleTurn) : Type 0 where
@@ -94,16 +94,16 @@ turned calls t = by (came calls t)
   where
     all : (e : Event) → table_sound calls ≡ true → read events t.event ≡ taken e → aim_of e ≡ Aim.Every
         → console_outcome calls t ≡ everywhere calls e t.buffer → Everywhere calls e t.buffer → Turned calls t
-    all e s h a o (none-takes x d) = stays (next-is calls t (o ∙ d))
-    all e s h a o (no_room x y d) = stays (next-is calls t (o ∙ d))
-    all e s h a o (all_take x y d) = all_go e s h a (next-is calls t (o ∙ d))
+    all e s h a o (none_takes x d) = stays (next_is calls t (o ∙ d))
+    all e s h a o (no_room x y d) = stays (next_is calls t (o ∙ d))
+    all e s h a o (all_take x y d) = all_go e s h a (next_is calls t (o ∙ d))
 
     by : Came calls t → Turned calls t
-    by (unsound s o) = stays (next-is calls t o)
-    by (unread n p s h o) = stays (next-is calls t o)
-    by (routes e (Route.To i) s h r o) = goes_on e i s h r (next-is calls t o)
+    by (unsound s o) = stays (next_is calls t o)
+    by (unread n p s h o) = stays (next_is calls t o)
+    by (routes e (Route.To i) s h r o) = goes_on e i s h r (next_is calls t o)
     by (routes e Route.Everywhere s h r o) = all e s h (to_all calls t.place e r) o (everywhere_does calls e t.buffer)
-    by (routes e (Route.Refused a) s h r o) = stays (next-is calls t o)
+    by (routes e (Route.Refused a) s h r o) = stays (next_is calls t o)
 
 -- a run over two lists goes through the one and then the other
 pub run-append : (calls : List Call) (ts us : List ConsoleTurn) → console_run calls (ts ++ us) ≡ console_run (console_run calls ts) us

@@ -18,7 +18,7 @@ use Rattle.callcontrol.specs.declared.step.Answer.{Answer}
 use Rattle.demands.specs.Runs.{Turn, outcome, next, run}
 use Rattle.demands.specs.Demands.{Kept}
 use Rattle.demands.proofs.Facts.{left, right, is_not}
-use Rattle.demands.proofs.Demands.{fresh-is-sound, step-keeps-sound}
+use Rattle.demands.proofs.Demands.{fresh_is_sound, step_keeps_sound}
 use Rattle.console.specs.declared.route.Aim.{Aim}
 use Rattle.console.specs.declared.route.ConsoleAnswer.{ConsoleAnswer}
 use Rattle.console.specs.declared.route.Route.{Route}
@@ -29,9 +29,9 @@ use Rattle.console.specs.Runs.{ConsoleTurn, console_next, console_run, went_to}
 use Rattle.console.proofs.Placing.{Decides, decides}
 use Rattle.console.proofs.Routing.{to_place}
 use Rattle.console.proofs.Named.{Names, gone, kept, begun, brought, named, names}
-use Rattle.console.proofs.Everywhere.{next-length}
-use Rattle.console.proofs.Turns.{Turned, turned, stays, goes_on, all_go, next-at}
-use Rattle.console.proofs.Went.{record_at, placed-call}
+use Rattle.console.proofs.Everywhere.{next_length}
+use Rattle.console.proofs.Turns.{Turned, turned, stays, goes_on, all_go, next_at}
+use Rattle.console.proofs.Went.{record_at, placed_call}
 
 -- two calls of which not both are outside IDLE with one identifier
 abbrev pub NoTwin : Call → Call → Type 0
@@ -45,16 +45,16 @@ false_true p q = absurd (let z : ◌≡◌ {A = ℕ} 0 1 = cc in omega arith)
 
 -- ---- as the table's test has it
 
-pub idle-id : (c : Call) → sound c ≡ true → is_idle c ≡ true → c.id ≡ 0
+pub idle_id : (c : Call) → sound c ≡ true → is_idle c ≡ true → c.id ≡ 0
 unfolding sound as_fresh
-idle-id c ok idle =
+idle_id c ok idle =
     let fresh : (is_idle c ⇒ as_fresh c) ≡ true = search (left, right) depth 8 in
     let all : as_fresh c ≡ true = rw idle at fresh in
     let none : eqb c.id 0 ≡ true = search (left, right) depth 20 in
     eqb-true c.id 0 none
 
 outside : (c : Call) (b : Bool) → is_idle c ≡ b → sound c ≡ true → leb 1 c.id ≡ true → is_idle c ≡ false
-outside c true idle ok some = absurd (let z = idle-id c ok idle in let l = leb-true 1 c.id some in omega arith)
+outside c true idle ok some = absurd (let z = idle_id c ok idle in let l = leb-true 1 c.id some in omega arith)
 outside c false idle ok some = idle
 
 or_case : {A : Type 0} (a b : Bool) → (a || b) ≡ true → (a ≡ true → A) → (b ≡ true → A) → A
@@ -102,18 +102,18 @@ below_by p c cs true is k l f = absurd (omega arith)
 below_by p c cs false is zero l f = is
 below_by p c cs false is (suc k) l f = f k (omega arith)
 
-below-lowest : (p : Call → Bool) (cs : List Call) (k : ℕ) → k < lowest p cs → p (call_at cs k) ≡ false
-below-lowest p [] k lt = absurd (omega arith)
-below-lowest p (c ∷ cs) k lt = below_by p c cs (p c) refl k lt (below-lowest p cs)
+below_lowest : (p : Call → Bool) (cs : List Call) (k : ℕ) → k < lowest p cs → p (call_at cs k) ≡ false
+below_lowest p [] k lt = absurd (omega arith)
+below_lowest p (c ∷ cs) k lt = below_by p c cs (p c) refl k lt (below_lowest p cs)
 
-at-by : (p : Call → Bool) (c : Call) (cs : List Call) (b : Bool) → p c ≡ b → cond b 0 (suc (lowest p cs)) < suc (length cs)
+at_by : (p : Call → Bool) (c : Call) (cs : List Call) (b : Bool) → p c ≡ b → cond b 0 (suc (lowest p cs)) < suc (length cs)
     → (lowest p cs < length cs → p (call_at cs (lowest p cs)) ≡ true) → p (call_at (c ∷ cs) (cond b 0 (suc (lowest p cs)))) ≡ true
-at-by p c cs true is l f = is
-at-by p c cs false is l f = f (omega arith)
+at_by p c cs true is l f = is
+at_by p c cs false is l f = f (omega arith)
 
-at-lowest : (p : Call → Bool) (cs : List Call) → lowest p cs < length cs → p (call_at cs (lowest p cs)) ≡ true
-at-lowest p [] lt = absurd (omega arith)
-at-lowest p (c ∷ cs) lt = at-by p c cs (p c) refl lt (at-lowest p cs)
+at_lowest : (p : Call → Bool) (cs : List Call) → lowest p cs < length cs → p (call_at cs (lowest p cs)) ≡ true
+at_lowest p [] lt = absurd (omega arith)
+at_lowest p (c ∷ cs) lt = at_by p c cs (p c) refl lt (at_lowest p cs)
 
 -- ---- a table that a run reaches
 
@@ -135,10 +135,10 @@ good_sound calls g =
           (g.single j k (omega arith) (omega arith) (λ e. omega arith))),
     )
 
-run-kept : (c : Call) (ts : List Turn) → Kept c → Kept (run c ts)
+run_kept : (c : Call) (ts : List Turn) → Kept c → Kept (run c ts)
 unfolding run next outcome
-run-kept c [] k = k
-run-kept c (t ∷ ts) k = run-kept (next c t) ts (step-keeps-sound c t.event t.buffer k)
+run_kept c [] k = k
+run_kept c (t ∷ ts) k = run_kept (next c t) ts (step_keeps_sound c t.event t.buffer k)
 
 -- ---- where an event goes, and who holds its identifier
 
@@ -146,9 +146,9 @@ holds_it : (i : ℕ) (d : Call) → is_idle d ≡ false → d.id ≡ i → holds
 unfolding holds
 holds_it i d out is = rw (out, eq-eqb d.id i is)
 
-held-id : (i : ℕ) (d : Call) → holds i d ≡ true → d.id ≡ i
+held_id : (i : ℕ) (d : Call) → holds i d ≡ true → d.id ≡ i
 unfolding holds
-held-id i d h = eqb-true d.id i (right (not (is_idle d)) (eqb d.id i) h)
+held_id i d h = eqb-true d.id i (right (not (is_idle d)) (eqb d.id i) h)
 
 module _ (calls : List Call) (g : Good calls) (i : ℕ) (lt : i < 8) where
   abbrev goer : Call
@@ -161,7 +161,7 @@ module _ (calls : List Call) (g : Good calls) (i : ℕ) (lt : i < 8) where
 
   free_other : {n : ℕ} (k : ℕ) → k < 8 → 8 ≤ lowest (holds n) calls → is_idle (call_at calls k) ≡ false → (call_at calls k).id ≡ n → ⊥
   free_other {n} k kl none out is =
-      false_true (holds_it n (call_at calls k) out is) (below-lowest (holds n) calls k (omega arith))
+      false_true (holds_it n (call_at calls k) out is) (below_lowest (holds n) calls k (omega arith))
 
   refused_or : (z : Bool) (n : ℕ) (a : ConsoleAnswer) (r : Route) → ltb (lowest (holds n) calls) 8 ≡ z → cond z (Route.Refused a) r ≡ Route.To i → 8 ≤ lowest (holds n) calls
   refused_or true n a r z h = absurd (let w : ◌≡◌ {A = ℕ} 0 1 = cc in omega arith)
@@ -184,7 +184,7 @@ module _ (calls : List Call) (g : Good calls) (i : ℕ) (lt : i < 8) where
       by true z w =
           let same : lowest (holds n) calls ≡ i = cc in
           let eight = g.eight in
-          here (held-id n goer (rw same at (at-lowest (holds n) calls (let l = ltb-true (lowest (holds n) calls) 8 z in omega arith))))
+          here (held_id n goer (rw same at (at_lowest (holds n) calls (let l = ltb-true (lowest (holds n) calls) 8 z in omega arith))))
       by false z w = unheld (ltb-false (lowest (holds n) calls) 8 z)
 
   module _ (place : ℕ) (e : Event) (to : route_of calls place e ≡ Route.To i) where
@@ -200,7 +200,7 @@ module _ (calls : List Call) (g : Good calls) (i : ℕ) (lt : i < 8) where
         by (gone is) p q s = false_true (ap is_idle is) p
         by (kept out same) p q s = g.single i k lt kl other out q (sym same ∙ s)
         by (begun idle aim same) p q s =
-            free_other {n = 0} k kl (for_outgoing (aim_to Aim.Outgoing aim)) q (sym s ∙ same ∙ idle-id goer (g.kept i lt).meets idle)
+            free_other {n = 0} k kl (for_outgoing (aim_to Aim.Outgoing aim)) q (sym s ∙ same ∙ idle_id goer (g.kept i lt).meets idle)
         by (brought n aim same) p q s = free_other {n = n} k kl (for_incoming n (aim_to (Aim.Incoming n) aim)) q (sym s ∙ same)
         by (named n aim out same) p q s = with_free (for_held n (aim_to (Aim.Held n) aim))
           where
@@ -209,7 +209,7 @@ module _ (calls : List Call) (g : Good calls) (i : ℕ) (lt : i < 8) where
             with_free (here own) = g.single i k lt kl other out q (own ∙ sym same ∙ s)
 
     placed_single : (b : List ℕ) (k : ℕ) → k < 8 → (i ≡ k → ⊥) → NoTwin (placed i goer e b).call (call_at calls k)
-    placed_single b k kl other = rw (placed-call i goer e b) (by (decides goer e (drop 5 b)))
+    placed_single b k kl other = rw (placed_call i goer e b) (by (decides goer e (drop 5 b)))
       where
         by : Decides goer e (drop 5 b) → NoTwin (decided goer e (drop 5 b)).call (call_at calls k)
         by (Decides.refuses n z d) = rw d (g.single i k lt kl other)
@@ -218,8 +218,8 @@ module _ (calls : List Call) (g : Good calls) (i : ℕ) (lt : i < 8) where
 -- ---- every turn keeps it
 
 module _ (e : Event) (every : aim_of e ≡ Aim.Every) where
-  next-same : (c : Call) → is_idle (next_of e c) ≡ false → (is_idle c ≡ false) × ((next_of e c).id ≡ c.id)
-  next-same c out = by (takes e c) refl
+  next_same : (c : Call) → is_idle (next_of e c) ≡ false → (is_idle c ≡ false) × ((next_of e c).id ≡ c.id)
+  next_same c out = by (takes e c) refl
     where
       row : Names c e (row_for c e) → is_idle (row_for c e).call ≡ false → (is_idle c ≡ false) × ((row_for c e).call.id ≡ c.id)
       row (gone is) p = false_true (ap is_idle is) p
@@ -238,7 +238,7 @@ pub good_next : (calls : List Call) (t : ConsoleTurn) → Good calls → Good (c
 good_next calls t g = by (turned calls t)
   where
     kept_next : (k : ℕ) → k < 8 → Kept (call_at (console_next calls t) k)
-    kept_next k lt = rw (record_at calls t k lt) (run-kept (call_at calls k) (went_to k calls t) (g.kept k lt))
+    kept_next k lt = rw (record_at calls t k lt) (run_kept (call_at calls k) (went_to k calls t) (g.kept k lt))
 
     by : Turned calls t → Good (console_next calls t)
     by (stays same) =
@@ -269,13 +269,13 @@ good_next calls t g = by (turned calls t)
     by (all_go e ok reads every same) =
         let n = g.eight in
         record {
-          eight = ap length same ∙ next-length calls e ∙ g.eight;
+          eight = ap length same ∙ next_length calls e ∙ g.eight;
           kept = kept_next;
           single = λ j k jl kl d.
-              rw (same, next-at calls e j (omega arith), next-at calls e k (omega arith))
+              rw (same, next_at calls e j (omega arith), next_at calls e k (omega arith))
               (λ p q s.
-              let a = next-same e every (call_at calls j) p in
-              let b = next-same e every (call_at calls k) q in
+              let a = next_same e every (call_at calls j) p in
+              let b = next_same e every (call_at calls k) q in
               g.single j k jl kl d a.0 b.0 (sym a.1 ∙ s ∙ b.1));
         }
 
@@ -294,7 +294,7 @@ pub good_fresh : Good fresh_table
 good_fresh =
     record {
       eight = refl;
-      kept = λ k lt. rw (fresh_at k lt) fresh-is-sound;
+      kept = λ k lt. rw (fresh_at k lt) fresh_is_sound;
       single = λ j k jl kl d. rw (fresh_at j jl) (λ p q s. false_true refl p);
     }
 

@@ -13,17 +13,17 @@ use Rattle.console.specs.Runs.{console_outcome, console_next, console_run, went_
 use Rattle.console.specs.Answers.{console_applies}
 use Rattle.console.specs.Witness.{shown, TwoCalls, RoomReached, PremisesMet, ThreeDueMet, EightMet, NoLimitMet, Writes57}
 
-pub two-calls : TwoCalls
+pub two_calls : TwoCalls
 unfolding shown computed holds alike table_sound at_named at_lowest_idle outgoing incoming at_holder route_of placed at_place everywhere console_of console_outcome console_next console_run
-two-calls = refl
+two_calls = refl
 
 pub room_reached : RoomReached
 unfolding computed holds alike table_sound at_named at_lowest_idle outgoing incoming at_holder route_of placed at_place everywhere console_of console_outcome console_next console_run
 room_reached = (refl, refl)
 
-pub premises-met : PremisesMet
+pub premises_met : PremisesMet
 unfolding computed restores quiet taken_in note_slots reads_slots slots_by_history holds alike table_sound at_named at_lowest_idle outgoing incoming at_holder route_of placed at_place everywhere console_of console_outcome console_next console_run went_to went_in
-premises-met =
+premises_met =
     record {
       went = refl;
       broke = refl;
@@ -38,17 +38,17 @@ premises-met =
       carried = refl;
     }
 
-pub three-due-met : ThreeDueMet
+pub three_due_met : ThreeDueMet
 unfolding computed log_in index_of note_message note_messages note_expiry note_log running_by holds alike table_sound at_named at_lowest_idle outgoing incoming at_holder route_of placed at_place everywhere console_of console_outcome console_next console_run went_to went_in
-three-due-met =
+three_due_met =
     record {
       due = (311, refl, refl, lit≤ tt, (310, refl, refl, lit≤ tt, (308, refl, refl, lit≤ tt, tt)));
       three = refl;
     }
 
-pub eight-met : EightMet
+pub eight_met : EightMet
 unfolding computed console_applies holds alike table_sound at_named at_lowest_idle outgoing incoming at_holder route_of placed at_place everywhere console_of console_outcome console_next console_run went_to went_in
-eight-met = record { transmitting = refl; went = refl; given = refl; eight = refl; seven = refl; before-seven = refl }
+eight_met = record { transmitting = refl; went = refl; given = refl; eight = refl; seven = refl; before_seven = refl }
 
 pub no_limit_met : NoLimitMet
 unfolding computed log_in index_of note_message note_messages note_expiry note_log running_by holds alike table_sound at_named at_lowest_idle outgoing incoming at_holder route_of placed at_place everywhere console_of console_outcome console_next console_run went_to went_in

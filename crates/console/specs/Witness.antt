@@ -111,11 +111,11 @@ turns_of [] = []
 turns_of (l ∷ ls) = turn l.place l.event ∷ turns_of ls
 
 -- its turns from the m-th on, n of them, and the table after the first n
-abbrev pub some-turns : ℕ → ℕ → List ConsoleTurn
-some-turns m n = take n (drop m (turns_of two_calls))
+abbrev pub some_turns : ℕ → ℕ → List ConsoleTurn
+some_turns m n = take n (drop m (turns_of two_calls))
 
 abbrev pub table_at : ℕ → List Call
-table_at n = console_run fresh_table (some-turns 0 n)
+table_at n = console_run fresh_table (some_turns 0 n)
 
 abbrev breaks : ConsoleTurn
 breaks = turn 0 (4 ∷ 0 ∷ 3 ∷ 3 ∷ [])
@@ -131,7 +131,7 @@ releases = turn 0 (6 ∷ 0 ∷ 14 ∷ 2 ∷ 30 ∷ 0 ∷ [])
 pub record PremisesMet : Type 0 where
   pub went : went_to 0 (table_at 5) breaks ≡ lent_behind 0 breaks ∷ []
   pub broke : taken_by (call_at (table_at 5) 0) (lent_behind 0 breaks) ≡ some Break
-  pub calm : quiet (call_at (table_at 5) 0).id (call_at (table_at 6) 0) (went_in 0 (table_at 6) (some-turns 6 4)) ≡ true
+  pub calm : quiet (call_at (table_at 5) 0).id (call_at (table_at 6) 0) (went_in 0 (table_at 6) (some_turns 6 4)) ≡ true
   pub back : went_to 0 (table_at 10) restores ≡ lent_behind 0 restores ∷ []
   pub restored : taken_by (call_at (table_at 10) 0) (lent_behind 0 restores) ≡ some (DCallRestore 21 0 0 16)
   pub came : went_to 1 (table_at 11) releases ≡ lent_behind 0 releases ∷ []
@@ -139,7 +139,7 @@ pub record PremisesMet : Type 0 where
   pub rings : runs (call_at (table_at 15) 1) T302 ≡ true
   pub connected : is_idle (call_at (table_at 16) 1) ≡ false
   pub slots : (call_at (table_at 16) 1).slots ≡ 3
-  pub carried : slots_by_history (taken_in fresh_call (went_in 1 fresh_table (some-turns 0 16))) ≡ 3
+  pub carried : slots_by_history (taken_in fresh_call (went_in 1 fresh_table (some_turns 0 16))) ≡ 3
 
 -- ---- the premises of AtMostThreeDueAt and NoneAfterThreeAt, met by the first of the eight calls: T311 ends its transmission, T310 the call and T308 the
 -- release, while another call comes in
@@ -163,12 +163,12 @@ abbrev pub informs : ℕ → ConsoleTurn
 informs lent = record { place = 0; event = 9 ∷ 0 ∷ 6 ∷ 2 ∷ 40 ∷ 0 ∷ 1 ∷ 5 ∷ 1 ∷ []; buffer = zeros lent }
 
 pub record EightMet : Type 0 where
-  pub transmitting : transmits (told (went_in 1 fresh_table (some-turns 0 16))) ≡ true
+  pub transmitting : transmits (told (went_in 1 fresh_table (some_turns 0 16))) ≡ true
   pub went : went_to 1 (table_at 16) (informs 184) ≡ lent_behind 0 (informs 184) ∷ []
   pub given : (console_outcome (table_at 16) (informs 184)).answer ≡ 8
   pub eight : console_applies 8 (table_at 16) (informs 0) ≡ true
   pub seven : console_applies 7 (table_at 16) (informs 0) ≡ true
-  pub before-seven : (console_outcome (table_at 16) (informs 0)).answer ≡ 8
+  pub before_seven : (console_outcome (table_at 16) (informs 0)).answer ≡ 8
 
 -- ---- the premises of NoneRunsAt and NoLimitNoExpiryAt, met at place 1 by a duplex call that is connected with T310 code 0: it transmits, and by its
 -- messages no timer runs, while T310 runs at place 0; an expiry of T310 gets 6 there

@@ -25,14 +25,14 @@ use Rattle.demands.proofs.Turns.{by_tests, Accepted, Turned, passed, took, turne
 -- ---- the first answer
 
 module _ (c : Call) (buffer : List ℕ) where
-  event-answered : (other row over room : Bool) (d : Draft) → (by_tests other row over room c d buffer).answer ≡ cond other 5 (cond (not row) 6 (cond over 8 (cond (not room) 7 0)))
-  event-answered true row over room d = refl
-  event-answered false false over room d = refl
-  event-answered false true true room d = refl
-  event-answered false true false false d = refl
-  event-answered false true false true d = refl
+  event_answered : (other row over room : Bool) (d : Draft) → (by_tests other row over room c d buffer).answer ≡ cond other 5 (cond (not row) 6 (cond over 8 (cond (not room) 7 0)))
+  event_answered true row over room d = refl
+  event_answered false false over room d = refl
+  event_answered false true true room d = refl
+  event_answered false true false false d = refl
+  event_answered false true false true d = refl
 
-  step-answered : (ok : Bool) (s : List ℕ) (r : Read Event) → Reads s r →
+  step_answered : (ok : Bool) (s : List ℕ) (r : Read Event) → Reads s r →
       (cond ok (when_read r c buffer) (refusal 1 c buffer)).answer
       ≡ cond (not ok) 1
       (cond (wrong_length s) 2
@@ -44,17 +44,17 @@ module _ (c : Call) (buffer : List ℕ) where
       (cond (of_event (λ e. over_transmission c e) r) 8
       (cond (of_event (λ e. not (leb (length (bytes_of (messages_in (row_for c e)))) (length buffer))) r) 7 0))))))))
   unfolding decided carried
-  step-answered false s r v = refl
-  step-answered true s r (bad_length l) = rw l
-  step-answered true s r (no_kind_lem l k) = rw (l, k)
-  step-answered true s r (retired l k n) = rw (l, k, n)
-  step-answered true s r (bad_body_lem l k n b) = rw (l, k, n, b)
-  step-answered true s r (is {e} l k n b f) =
-      rw (l, k, n, b) (event-answered (other_call c e) (row_for c e).taken (over_transmission c e) (leb (length (bytes_of (messages_in (row_for c e)))) (length buffer)) (row_for c e))
+  step_answered false s r v = refl
+  step_answered true s r (bad_length l) = rw l
+  step_answered true s r (no_kind_lem l k) = rw (l, k)
+  step_answered true s r (retired l k n) = rw (l, k, n)
+  step_answered true s r (bad_body_lem l k n b) = rw (l, k, n, b)
+  step_answered true s r (is {e} l k n b f) =
+      rw (l, k, n, b) (event_answered (other_call c e) (row_for c e).taken (over_transmission c e) (leb (length (bytes_of (messages_in (row_for c e)))) (length buffer)) (row_for c e))
 
 pub answered : Answered
 unfolding step_of applies
-answered c bytes buffer = step-answered c buffer (sound c) bytes (read events bytes) (reads bytes)
+answered c bytes buffer = step_answered c buffer (sound c) bytes (read events bytes) (reads bytes)
 
 -- ---- a refusal gives the record back
 
@@ -96,9 +96,9 @@ place_only_with_four c bytes buffer = step_placeless (sound c) bytes (read event
 
 -- ---- what is taken gives the row's record and bytes
 
-pub taken-gives : Taken
+pub taken_gives : Taken
 unfolding written_by
-taken-gives c t e h =
+taken_gives c t e h =
     let a : Accepted c t e = accepts c t e h in
     (a.reads, a.leaves, rw h (ap (λ o. o.count) a.gives), rw h (ap (λ o. o.buffer) a.gives))
 
@@ -108,5 +108,5 @@ zero_took : (c : Call) (t : Turn) → Turned c t → (outcome c t).answer ≡ 0 
 zero_took c t (passed p) h = absurd (p.number (ap (λ (o : Outcome). o.answer) (sym p.gives) ∙ h))
 zero_took c t (took e a) h = (e, a.takes)
 
-pub zero-is-taken : Zero
-zero-is-taken c t = zero_took c t (turned c t)
+pub zero_is_taken : Zero
+zero_is_taken c t = zero_took c t (turned c t)

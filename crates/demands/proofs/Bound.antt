@@ -22,13 +22,13 @@ use Rattle.callcontrol.specs.Rows
 use Rattle.callcontrol.specs.Rows.{row_for}
 use Rattle.callcontrol.specs.Writing.{held, messages_in, bytes_of, count_of}
 use Rattle.callcontrol.specs.Step.{other_call, over_transmission, carried, decided, when_read, step_of}
-use Rattle.callcontrol.proofs.Laying.{size-messages, size_one}
+use Rattle.callcontrol.proofs.Laying.{size_messages, size_one}
 use Rattle.callcontrol.proofs.Verbs.{verbs}
 use Rattle.demands.specs.Runs.{Turn, outcome, run}
 use Rattle.demands.specs.Demands.{Kept, AtMost32, Enough32, AtMost52}
 use Rattle.demands.proofs.Facts.{apart, left, right}
 use Rattle.demands.proofs.ByRow.{Ender, t301, t302, t303, t306, t310, Row, is_row}
-use Rattle.demands.proofs.Cases.{on_plane, by-plane, by-restart, by-grant, by-grant_or_off, limited_as, by_start310}
+use Rattle.demands.proofs.Cases.{on_plane, by_plane, by_restart, by_grant, by_grant_or_off, limited_as, by_start310}
 use Rattle.demands.proofs.Reading.{Reads, bad_length, no_kind_lem, retired, bad_body_lem, is, reads}
 use Rattle.demands.proofs.Situations.{call, At, idle, mo, mt, up, broken, restoring, wait, disconnect, situated}
 use Rattle.demands.proofs.Sound.{always}
@@ -61,9 +61,9 @@ configured : (b : Bool) → cond b 5 0 ≤ 5
 configured true = lit≤ tt
 configured false = lit≤ tt
 
-taken-size : (n : ℕ) (x : Draft) → Within n x → length (bytes_of (messages_in x)) ≤ n + 5
+taken_size : (n : ℕ) (x : Draft) → Within n x → length (bytes_of (messages_in x)) ≤ n + 5
 unfolding cost
-taken-size n x h = omega (arith, size-messages x, slot_size x.pdu, slot_size x.user, configured (not (eqb x.configure 0)), leb-true (cost x) n h)
+taken_size n x h = omega (arith, size_messages x, slot_size x.pdu, slot_size x.user, configured (not (eqb x.configure 0)), leb-true (cost x) n h)
 
 -- ---- the rows whose size depends on which timers run: those that stop all, and D-CONNECT, which stops two
 
@@ -89,7 +89,7 @@ record Ends (n : ℕ) (c : Call) : Type 0 where
 -- those of CALL-DISCONNECT
 record Closes (n : ℕ) (c : Call) : Type 0 where
   collides : (i : ℕ) → Within n (Rows.disconnected i c ▷ cancel)
-  ends-first : Within n (Rows.released c ▷ cancel)
+  ends_first : Within n (Rows.released c ▷ cancel)
   confirmed : Within n (draft c ▷ Rows.confirmed)
   unanswered : Within n (draft c ▷ expired T308 ▷ Rows.confirmed)
 
@@ -116,7 +116,7 @@ continuing true (wait l p m) = refl
 continuing false (wait l p m) = refl
 
 continues : {c : Call} {w : Path} → At State.Wait w c → Within 27 (draft c ▷ go State.CallActive ▷ plane c.kept ▷ tell (TxIndication 7))
-continues {c} v = by-plane (λ x. Within 27 (tell (TxIndication 7) x)) c.kept (go State.CallActive (draft c)) (λ b. continuing b v)
+continues {c} v = by_plane (λ x. Within 27 (tell (TxIndication 7) x)) c.kept (go State.CallActive (draft c)) (λ b. continuing b v)
 
 module _ (n : ℕ) (enough : 27 ≤ n) where
   more : (k : ℕ) → leb k 27 ≡ true → leb k n ≡ true
@@ -132,7 +132,7 @@ module _ (n : ℕ) (enough : 27 ≤ n) where
   within ends (Row.calls a d q (suc s)) idle h = more _ refl
   within ends (Row.is_called i a d) idle h = more _ refl
   within ends (Row.takes_back z) (mo {t₃} m) h = more _ (elim t₃ [ true ↦ refl | false ↦ refl ])
-  within ends (Row.releases-sent z) v h = ends.releasing
+  within ends (Row.releases_sent z) v h = ends.releasing
   within ends (Row.proceeds i) (mo {t₃} m) h = more _ (elim t₃ [ true ↦ refl | false ↦ refl ])
   within ends (Row.alerts i) (mo {t₃} m) h = more _ (elim t₃ [ true ↦ refl | false ↦ refl ])
   within ends (Row.connects i g d o s) v h = h i g d o s
@@ -140,23 +140,23 @@ module _ (n : ℕ) (enough : 27 ≤ n) where
   within ends (Row.unsent z) (mo {t₃} m) h = more _ (elim t₃ [ true ↦ refl | false ↦ refl ])
   within ends (Row.answers z) v h = more _ refl
   within {c} ends (Row.completes i g o z) (mt {t₁ = true} {t₁₀ = true} l m) h =
-      more _ (by_start310 (λ x. Within 27 (tell (Complete g) (grant_or_off g x))) (completing o c) (by-grant_or_off (λ x. Within 27 (tell (Complete g) x)) g _ refl refl refl refl refl refl refl)
-      (by-grant_or_off (λ x. Within 27 (tell (Complete g) x)) g _ refl refl refl refl refl refl refl))
+      more _ (by_start310 (λ x. Within 27 (tell (Complete g) (grant_or_off g x))) (completing o c) (by_grant_or_off (λ x. Within 27 (tell (Complete g) x)) g _ refl refl refl refl refl refl refl)
+      (by_grant_or_off (λ x. Within 27 (tell (Complete g) x)) g _ refl refl refl refl refl refl refl))
   within {c} ends (Row.completes i g o z) (mt {t₁ = true} {t₁₀ = false} l m) h =
-      more _ (by_start310 (λ x. Within 27 (tell (Complete g) (grant_or_off g x))) (completing o c) (by-grant_or_off (λ x. Within 27 (tell (Complete g) x)) g _ refl refl refl refl refl refl refl)
-      (by-grant_or_off (λ x. Within 27 (tell (Complete g) x)) g _ refl refl refl refl refl refl refl))
+      more _ (by_start310 (λ x. Within 27 (tell (Complete g) (grant_or_off g x))) (completing o c) (by_grant_or_off (λ x. Within 27 (tell (Complete g) x)) g _ refl refl refl refl refl refl refl)
+      (by_grant_or_off (λ x. Within 27 (tell (Complete g) x)) g _ refl refl refl refl refl refl refl))
   within ends (Row.completes i g o z) (mt {t₁ = false} l m) h = apart z refl
   within ends (Row.asks_to_send k z y) v h = more _ refl
   within ends (Row.stops_sending k z y) (up {t₁₁} l p m) h = more _ (elim t₁₁ [ true ↦ refl | false ↦ refl ])
   within ends (Row.asks_no_more k z y x) v h = more _ refl
-  within ends (Row.same-mode i r o d s z) (up {t₁₀ = true} l p m) h = more _ (by-restart (λ x. Within 27 (tell_modified d (same_plane (store_slots s x)))) r o _ refl refl refl)
-  within ends (Row.same-mode i r o d s z) (up {t₁₀ = false} l p m) h = more _ (by-restart (λ x. Within 27 (tell_modified d (same_plane (store_slots s x)))) r o _ refl refl refl)
-  within ends (Row.new_mode i r o d s z) (up {t₁₀ = true} {t₁₁ = true} l p m) h = more _ (by-restart (λ x. Within 27 (tell_modified d (off (store_slots s (store_mode d x))))) r o _ refl refl refl)
-  within ends (Row.new_mode i r o d s z) (up {t₁₀ = false} {t₁₁ = true} l p m) h = more _ (by-restart (λ x. Within 27 (tell_modified d (off (store_slots s (store_mode d x))))) r o _ refl refl refl)
-  within ends (Row.new_mode i r o d s z) (up {t₁₀ = true} {t₁₁ = false} l p m) h = more _ (by-restart (λ x. Within 27 (tell_modified d (off (store_slots s (store_mode d x))))) r o _ refl refl refl)
-  within ends (Row.new_mode i r o d s z) (up {t₁₀ = false} {t₁₁ = false} l p m) h = more _ (by-restart (λ x. Within 27 (tell_modified d (off (store_slots s (store_mode d x))))) r o _ refl refl refl)
-  within ends (Row.granted i g) (up {t₁₁ = true} l p m) h = more _ (by-grant (λ x. Within 27 (tell (TxIndication g) x)) g _ refl refl refl refl refl)
-  within ends (Row.granted i g) (up {t₁₁ = false} l p m) h = more _ (by-grant (λ x. Within 27 (tell (TxIndication g) x)) g _ refl refl refl refl refl)
+  within ends (Row.same_mode i r o d s z) (up {t₁₀ = true} l p m) h = more _ (by_restart (λ x. Within 27 (tell_modified d (same_plane (store_slots s x)))) r o _ refl refl refl)
+  within ends (Row.same_mode i r o d s z) (up {t₁₀ = false} l p m) h = more _ (by_restart (λ x. Within 27 (tell_modified d (same_plane (store_slots s x)))) r o _ refl refl refl)
+  within ends (Row.new_mode i r o d s z) (up {t₁₀ = true} {t₁₁ = true} l p m) h = more _ (by_restart (λ x. Within 27 (tell_modified d (off (store_slots s (store_mode d x))))) r o _ refl refl refl)
+  within ends (Row.new_mode i r o d s z) (up {t₁₀ = false} {t₁₁ = true} l p m) h = more _ (by_restart (λ x. Within 27 (tell_modified d (off (store_slots s (store_mode d x))))) r o _ refl refl refl)
+  within ends (Row.new_mode i r o d s z) (up {t₁₀ = true} {t₁₁ = false} l p m) h = more _ (by_restart (λ x. Within 27 (tell_modified d (off (store_slots s (store_mode d x))))) r o _ refl refl refl)
+  within ends (Row.new_mode i r o d s z) (up {t₁₀ = false} {t₁₁ = false} l p m) h = more _ (by_restart (λ x. Within 27 (tell_modified d (off (store_slots s (store_mode d x))))) r o _ refl refl refl)
+  within ends (Row.granted i g) (up {t₁₁ = true} l p m) h = more _ (by_grant (λ x. Within 27 (tell (TxIndication g) x)) g _ refl refl refl refl refl)
+  within ends (Row.granted i g) (up {t₁₁ = false} l p m) h = more _ (by_grant (λ x. Within 27 (tell (TxIndication g) x)) g _ refl refl refl refl refl)
   within ends (Row.ceased i) (up {t₁₁} l p m) h = more _ (elim t₁₁ [ true ↦ refl | false ↦ refl ])
   within ends (Row.interrupted i g) v h = more _ (interrupts (eqb g 3) v)
   within ends (Row.pauses i) (up {t₁₁} l p m) h = more _ (elim t₁₁ [ true ↦ refl | false ↦ refl ])
@@ -165,25 +165,25 @@ module _ (n : ℕ) (enough : 27 ≤ n) where
   within ends (Row.wants k z) v h = more _ refl
   within ends Row.resumes (broken l m) h = more _ refl
   within ends (Row.restored i g r o) (restoring {t₁₀ = true} l m) h =
-      more _ (by-restart (λ x. Within 27 (tell (TxIndication g) x)) r o _
-      (by-grant (λ x. Within 27 (tell (TxIndication g) (limited_as false (store_code (cond (eqb o 16) x.call.code o) x)))) g _ refl refl refl refl refl)
-      (by-grant (λ x. Within 27 (tell (TxIndication g) (limited_as true (store_code (cond (eqb o 16) x.call.code o) x)))) g _ refl refl refl refl refl)
-      (by-grant (λ x. Within 27 (tell (TxIndication g) x)) g _ refl refl refl refl refl))
+      more _ (by_restart (λ x. Within 27 (tell (TxIndication g) x)) r o _
+      (by_grant (λ x. Within 27 (tell (TxIndication g) (limited_as false (store_code (cond (eqb o 16) x.call.code o) x)))) g _ refl refl refl refl refl)
+      (by_grant (λ x. Within 27 (tell (TxIndication g) (limited_as true (store_code (cond (eqb o 16) x.call.code o) x)))) g _ refl refl refl refl refl)
+      (by_grant (λ x. Within 27 (tell (TxIndication g) x)) g _ refl refl refl refl refl))
   within ends (Row.restored i g r o) (restoring {t₁₀ = false} l m) h =
-      more _ (by-restart (λ x. Within 27 (tell (TxIndication g) x)) r o _
-      (by-grant (λ x. Within 27 (tell (TxIndication g) (limited_as false (store_code (cond (eqb o 16) x.call.code o) x)))) g _ refl refl refl refl refl)
-      (by-grant (λ x. Within 27 (tell (TxIndication g) (limited_as true (store_code (cond (eqb o 16) x.call.code o) x)))) g _ refl refl refl refl refl)
-      (by-grant (λ x. Within 27 (tell (TxIndication g) x)) g _ refl refl refl refl refl))
-  within ends Row.breaks-again (restoring l m) h = more _ refl
+      more _ (by_restart (λ x. Within 27 (tell (TxIndication g) x)) r o _
+      (by_grant (λ x. Within 27 (tell (TxIndication g) (limited_as false (store_code (cond (eqb o 16) x.call.code o) x)))) g _ refl refl refl refl refl)
+      (by_grant (λ x. Within 27 (tell (TxIndication g) (limited_as true (store_code (cond (eqb o 16) x.call.code o) x)))) g _ refl refl refl refl refl)
+      (by_grant (λ x. Within 27 (tell (TxIndication g) x)) g _ refl refl refl refl refl))
+  within ends Row.breaks_again (restoring l m) h = more _ refl
   within ends (Row.continues i k z) v h = more _ (continues v)
   within ends (Row.continues_off i k z) (wait l p m) h = more _ refl
   within ends Row.breaks_paused (wait l p m) h = more _ refl
   within ends (Row.collides i z) v h = h.collides i
-  within ends (Row.collides-sent i z) v h = ends.disconnected i
-  within ends (Row.ends-first i z) v h = h.ends-first
+  within ends (Row.collides_sent i z) v h = ends.disconnected i
+  within ends (Row.ends_first i z) v h = h.ends_first
   within ends (Row.confirms i z) v h = h.confirmed
-  within ends (Row.end-sent z) v h = more _ refl
-  within ends (Row.end-unsent z) v h = h.confirmed
+  within ends (Row.end_sent z) v h = more _ refl
+  within ends (Row.end_unsent z) v h = h.confirmed
   within ends (Row.unanswered k z) v h = h.unanswered
 
 -- ---- a reached record: at most two timers run
@@ -192,10 +192,10 @@ module _ (n : ℕ) (enough : 27 ≤ n) where
 abbrev lapses : ℕ → Call → Bool
 lapses k c = not (runs c k) || leb (cost (lapse k c)) 27
 
-abbrev all-lapse : Call → Bool
-all-lapse c = lapses T301 c && lapses T302 c && lapses T303 c && lapses T306 c && lapses T310 c
+abbrev all_lapse : Call → Bool
+all_lapse c = lapses T301 c && lapses T302 c && lapses T303 c && lapses T306 c && lapses T310 c
 
-lapsed : (c : Call) → all-lapse c ≡ true → (m k : ℕ) → Ender m k → runs c k ≡ true → Within 27 (lapse k c)
+lapsed : (c : Call) → all_lapse c ≡ true → (m k : ℕ) → Ender m k → runs c k ≡ true → Within 27 (lapse k c)
 lapsed c h m k (t301 e) z = rw z at (let l : lapses T301 c ≡ true = search (left, right) depth 6 in l)
 lapsed c h m k (t302 e) z = rw z at (let l : lapses T302 c ≡ true = search (left, right) depth 6 in l)
 lapsed c h m k (t303 e) z = rw z at (let l : lapses T303 c ≡ true = search (left, right) depth 6 in l)
@@ -219,27 +219,27 @@ few_special : {s : State} {w : Path} {c : Call} → Timed s w c → Special 27 s
 unfolding sizes
 few_special Timers.idle = tt
 few_special {c} (Timers.mo {t = true} h) =
-    λ i g d o s. by_start310 (λ x. Within 27 (tell (SetupConfirm i g) (grant_or_off g x))) (connecting i d o s c) (by-grant_or_off (λ x. Within 27 (tell (SetupConfirm i g) x)) g _ refl refl refl refl refl refl refl)
-    (by-grant_or_off (λ x. Within 27 (tell (SetupConfirm i g) x)) g _ refl refl refl refl refl refl refl)
+    λ i g d o s. by_start310 (λ x. Within 27 (tell (SetupConfirm i g) (grant_or_off g x))) (connecting i d o s c) (by_grant_or_off (λ x. Within 27 (tell (SetupConfirm i g) x)) g _ refl refl refl refl refl refl refl)
+    (by_grant_or_off (λ x. Within 27 (tell (SetupConfirm i g) x)) g _ refl refl refl refl refl refl refl)
 few_special {c} (Timers.mo {t = false} h) =
-    λ i g d o s. by_start310 (λ x. Within 27 (tell (SetupConfirm i g) (grant_or_off g x))) (connecting i d o s c) (by-grant_or_off (λ x. Within 27 (tell (SetupConfirm i g) x)) g _ refl refl refl refl refl refl refl)
-    (by-grant_or_off (λ x. Within 27 (tell (SetupConfirm i g) x)) g _ refl refl refl refl refl refl refl)
+    λ i g d o s. by_start310 (λ x. Within 27 (tell (SetupConfirm i g) (grant_or_off g x))) (connecting i d o s c) (by_grant_or_off (λ x. Within 27 (tell (SetupConfirm i g) x)) g _ refl refl refl refl refl refl refl)
+    (by_grant_or_off (λ x. Within 27 (tell (SetupConfirm i g) x)) g _ refl refl refl refl refl refl refl)
 few_special Timers.mt = tt
 few_special Timers.up = tt
 few_special Timers.broken = tt
 few_special Timers.restoring = tt
 few_special Timers.wait = tt
-few_special Timers.disconnect = record { collides = λ i. refl; ends-first = refl; confirmed = refl; unanswered = refl }
+few_special Timers.disconnect = record { collides = λ i. refl; ends_first = refl; confirmed = refl; unanswered = refl }
 
-pub row-short : (c : Call) (e : Event) → Kept c → Clocked c → (row_for c e).taken ≡ true → length (bytes_of (messages_in (row_for c e))) ≤ 32
-row-short c e k v h = taken-size 27 (row_for c e) (within 27 (lit≤ tt) (few_ends (few v)) (is_row c e h) (situated c k) (few_special v))
+pub row_short : (c : Call) (e : Event) → Kept c → Clocked c → (row_for c e).taken ≡ true → length (bytes_of (messages_in (row_for c e))) ≤ 32
+row_short c e k v h = taken_size 27 (row_for c e) (within 27 (lit≤ tt) (few_ends (few v)) (is_row c e h) (situated c k) (few_special v))
 
-turn-short : (c : Call) (t : Turn) → Kept c → Clocked c → Turned c t → (outcome c t).count ≤ 32
-turn-short c t k v (passed p) = rw p.gives (lit≤ tt)
-turn-short c t k v (took e a) = rw a.gives (row-short c e k v a.row)
+turn_short : (c : Call) (t : Turn) → Kept c → Clocked c → Turned c t → (outcome c t).count ≤ 32
+turn_short c t k v (passed p) = rw p.gives (lit≤ tt)
+turn_short c t k v (took e a) = rw a.gives (row_short c e k v a.row)
 
 pub at_most_32 : AtMost32
-at_most_32 ts t = turn-short (run fresh_call ts) t (always ts) (reached ts) (turned _ t)
+at_most_32 ts t = turn_short (run fresh_call ts) t (always ts) (reached ts) (turned _ t)
 
 -- ---- so 32 are enough
 
@@ -250,20 +250,20 @@ room_for_row false true true room c d b f seven = omega arith
 room_for_row false true false false c d b f seven = apart (f refl) refl
 room_for_row false true false true c d b f seven = omega arith
 
-read-enough : (c : Call) (s b : List ℕ) → Kept c → Clocked c → 32 ≤ length b → {r : Read Event} → Reads s r → (when_read r c b).answer ≡ 7 → ⊥
+read_enough : (c : Call) (s b : List ℕ) → Kept c → Clocked c → 32 ≤ length b → {r : Read Event} → Reads s r → (when_read r c b).answer ≡ 7 → ⊥
 unfolding decided carried
-read-enough c s b k v lent (bad_length l) seven = omega arith
-read-enough c s b k v lent (no_kind_lem l n) seven = omega arith
-read-enough c s b k v lent (retired l n r) seven = omega arith
-read-enough c s b k v lent (bad_body_lem l n r d) seven = omega arith
-read-enough c s b k v lent (is {e} l n r d f) seven =
+read_enough c s b k v lent (bad_length l) seven = omega arith
+read_enough c s b k v lent (no_kind_lem l n) seven = omega arith
+read_enough c s b k v lent (retired l n r) seven = omega arith
+read_enough c s b k v lent (bad_body_lem l n r d) seven = omega arith
+read_enough c s b k v lent (is {e} l n r d f) seven =
     room_for_row (other_call c e) (row_for c e).taken (over_transmission c e) (leb (length (bytes_of (messages_in (row_for c e)))) (length b)) c (row_for c e) b
-    (λ h. le-leb (length (bytes_of (messages_in (row_for c e)))) (length b) (omega (arith, row-short c e k v h))) seven
+    (λ h. le-leb (length (bytes_of (messages_in (row_for c e)))) (length b) (omega (arith, row_short c e k v h))) seven
 
 pub enough_32 : Enough32
 unfolding outcome step_of
 enough_32 ts t lent seven =
-    read-enough (run fresh_call ts) t.event t.buffer (always ts) (reached ts) lent (reads t.event) (rw (always ts).meets at seven)
+    read_enough (run fresh_call ts) t.event t.buffer (always ts) (reached ts) lent (reads t.event) (rw (always ts).meets at seven)
 
 -- ---- a sound record: any timers run, but not T306 and T311 at once
 
@@ -319,29 +319,29 @@ six_special : {s : State} {w : Path} {c : Call} → At s w c → Special 47 s c
 unfolding sizes
 six_special idle = tt
 six_special {c} (mo {t₂ = true} {t₃ = true} {t₁₀ = true} m) =
-    λ i g d o s. by_start310 (λ x. Within 47 (tell (SetupConfirm i g) (grant_or_off g x))) (connecting i d o s c) (by-grant_or_off (λ x. Within 47 (tell (SetupConfirm i g) x)) g _ refl refl refl refl refl refl refl)
-    (by-grant_or_off (λ x. Within 47 (tell (SetupConfirm i g) x)) g _ refl refl refl refl refl refl refl)
+    λ i g d o s. by_start310 (λ x. Within 47 (tell (SetupConfirm i g) (grant_or_off g x))) (connecting i d o s c) (by_grant_or_off (λ x. Within 47 (tell (SetupConfirm i g) x)) g _ refl refl refl refl refl refl refl)
+    (by_grant_or_off (λ x. Within 47 (tell (SetupConfirm i g) x)) g _ refl refl refl refl refl refl refl)
 six_special {c} (mo {t₂ = true} {t₃ = true} {t₁₀ = false} m) =
-    λ i g d o s. by_start310 (λ x. Within 47 (tell (SetupConfirm i g) (grant_or_off g x))) (connecting i d o s c) (by-grant_or_off (λ x. Within 47 (tell (SetupConfirm i g) x)) g _ refl refl refl refl refl refl refl)
-    (by-grant_or_off (λ x. Within 47 (tell (SetupConfirm i g) x)) g _ refl refl refl refl refl refl refl)
+    λ i g d o s. by_start310 (λ x. Within 47 (tell (SetupConfirm i g) (grant_or_off g x))) (connecting i d o s c) (by_grant_or_off (λ x. Within 47 (tell (SetupConfirm i g) x)) g _ refl refl refl refl refl refl refl)
+    (by_grant_or_off (λ x. Within 47 (tell (SetupConfirm i g) x)) g _ refl refl refl refl refl refl refl)
 six_special {c} (mo {t₂ = true} {t₃ = false} {t₁₀ = true} m) =
-    λ i g d o s. by_start310 (λ x. Within 47 (tell (SetupConfirm i g) (grant_or_off g x))) (connecting i d o s c) (by-grant_or_off (λ x. Within 47 (tell (SetupConfirm i g) x)) g _ refl refl refl refl refl refl refl)
-    (by-grant_or_off (λ x. Within 47 (tell (SetupConfirm i g) x)) g _ refl refl refl refl refl refl refl)
+    λ i g d o s. by_start310 (λ x. Within 47 (tell (SetupConfirm i g) (grant_or_off g x))) (connecting i d o s c) (by_grant_or_off (λ x. Within 47 (tell (SetupConfirm i g) x)) g _ refl refl refl refl refl refl refl)
+    (by_grant_or_off (λ x. Within 47 (tell (SetupConfirm i g) x)) g _ refl refl refl refl refl refl refl)
 six_special {c} (mo {t₂ = true} {t₃ = false} {t₁₀ = false} m) =
-    λ i g d o s. by_start310 (λ x. Within 47 (tell (SetupConfirm i g) (grant_or_off g x))) (connecting i d o s c) (by-grant_or_off (λ x. Within 47 (tell (SetupConfirm i g) x)) g _ refl refl refl refl refl refl refl)
-    (by-grant_or_off (λ x. Within 47 (tell (SetupConfirm i g) x)) g _ refl refl refl refl refl refl refl)
+    λ i g d o s. by_start310 (λ x. Within 47 (tell (SetupConfirm i g) (grant_or_off g x))) (connecting i d o s c) (by_grant_or_off (λ x. Within 47 (tell (SetupConfirm i g) x)) g _ refl refl refl refl refl refl refl)
+    (by_grant_or_off (λ x. Within 47 (tell (SetupConfirm i g) x)) g _ refl refl refl refl refl refl refl)
 six_special {c} (mo {t₂ = false} {t₃ = true} {t₁₀ = true} m) =
-    λ i g d o s. by_start310 (λ x. Within 47 (tell (SetupConfirm i g) (grant_or_off g x))) (connecting i d o s c) (by-grant_or_off (λ x. Within 47 (tell (SetupConfirm i g) x)) g _ refl refl refl refl refl refl refl)
-    (by-grant_or_off (λ x. Within 47 (tell (SetupConfirm i g) x)) g _ refl refl refl refl refl refl refl)
+    λ i g d o s. by_start310 (λ x. Within 47 (tell (SetupConfirm i g) (grant_or_off g x))) (connecting i d o s c) (by_grant_or_off (λ x. Within 47 (tell (SetupConfirm i g) x)) g _ refl refl refl refl refl refl refl)
+    (by_grant_or_off (λ x. Within 47 (tell (SetupConfirm i g) x)) g _ refl refl refl refl refl refl refl)
 six_special {c} (mo {t₂ = false} {t₃ = true} {t₁₀ = false} m) =
-    λ i g d o s. by_start310 (λ x. Within 47 (tell (SetupConfirm i g) (grant_or_off g x))) (connecting i d o s c) (by-grant_or_off (λ x. Within 47 (tell (SetupConfirm i g) x)) g _ refl refl refl refl refl refl refl)
-    (by-grant_or_off (λ x. Within 47 (tell (SetupConfirm i g) x)) g _ refl refl refl refl refl refl refl)
+    λ i g d o s. by_start310 (λ x. Within 47 (tell (SetupConfirm i g) (grant_or_off g x))) (connecting i d o s c) (by_grant_or_off (λ x. Within 47 (tell (SetupConfirm i g) x)) g _ refl refl refl refl refl refl refl)
+    (by_grant_or_off (λ x. Within 47 (tell (SetupConfirm i g) x)) g _ refl refl refl refl refl refl refl)
 six_special {c} (mo {t₂ = false} {t₃ = false} {t₁₀ = true} m) =
-    λ i g d o s. by_start310 (λ x. Within 47 (tell (SetupConfirm i g) (grant_or_off g x))) (connecting i d o s c) (by-grant_or_off (λ x. Within 47 (tell (SetupConfirm i g) x)) g _ refl refl refl refl refl refl refl)
-    (by-grant_or_off (λ x. Within 47 (tell (SetupConfirm i g) x)) g _ refl refl refl refl refl refl refl)
+    λ i g d o s. by_start310 (λ x. Within 47 (tell (SetupConfirm i g) (grant_or_off g x))) (connecting i d o s c) (by_grant_or_off (λ x. Within 47 (tell (SetupConfirm i g) x)) g _ refl refl refl refl refl refl refl)
+    (by_grant_or_off (λ x. Within 47 (tell (SetupConfirm i g) x)) g _ refl refl refl refl refl refl refl)
 six_special {c} (mo {t₂ = false} {t₃ = false} {t₁₀ = false} m) =
-    λ i g d o s. by_start310 (λ x. Within 47 (tell (SetupConfirm i g) (grant_or_off g x))) (connecting i d o s c) (by-grant_or_off (λ x. Within 47 (tell (SetupConfirm i g) x)) g _ refl refl refl refl refl refl refl)
-    (by-grant_or_off (λ x. Within 47 (tell (SetupConfirm i g) x)) g _ refl refl refl refl refl refl refl)
+    λ i g d o s. by_start310 (λ x. Within 47 (tell (SetupConfirm i g) (grant_or_off g x))) (connecting i d o s c) (by_grant_or_off (λ x. Within 47 (tell (SetupConfirm i g) x)) g _ refl refl refl refl refl refl refl)
+    (by_grant_or_off (λ x. Within 47 (tell (SetupConfirm i g) x)) g _ refl refl refl refl refl refl refl)
 six_special (mt l m) = tt
 six_special (up l p m) = tt
 six_special (broken l m) = tt
@@ -350,7 +350,7 @@ six_special (wait l p m) = tt
 six_special {c} (disconnect {t₁} {t₂} {t₃} {t₈} {t₁₀} m) =
     record {
       collides = λ i. le-leb (cost (Rows.disconnected i c ▷ cancel)) 47 (omega (arith, flag (t₁ || false), flag (t₂ || false), flag (t₃ || false), flag (t₈ || false), flag (t₁₀ || false)));
-      ends-first = le-leb (cost (Rows.released c ▷ cancel)) 47 (omega (arith, flag (t₁ || false), flag (t₂ || false), flag (t₃ || false), flag (t₈ || false), flag (t₁₀ || false)));
+      ends_first = le-leb (cost (Rows.released c ▷ cancel)) 47 (omega (arith, flag (t₁ || false), flag (t₂ || false), flag (t₃ || false), flag (t₈ || false), flag (t₁₀ || false)));
       confirmed = le-leb (cost (draft c ▷ Rows.confirmed)) 47 (omega (arith, flag (t₁ || false), flag (t₂ || false), flag (t₃ || false), flag (t₈ || false), flag (t₁₀ || false)));
       unanswered = le-leb (cost (draft c ▷ expired T308 ▷ Rows.confirmed)) 47 (omega (arith, flag (t₁ || false), flag (t₂ || false), flag (t₃ || false), flag (t₁₀ || false)));
     }
@@ -359,7 +359,7 @@ turn_wide : (c : Call) (t : Turn) → Kept c → Turned c t → (outcome c t).co
 turn_wide c t k (passed p) = rw p.gives (lit≤ tt)
 turn_wide c t k (took e a) =
     let v : At c.state c.path c = situated c k in
-    rw a.gives (taken-size 47 (row_for c e) (within 47 (lit≤ tt) (six_ends (six v)) (is_row c e a.row) v (six_special v)))
+    rw a.gives (taken_size 47 (row_for c e) (within 47 (lit≤ tt) (six_ends (six v)) (is_row c e a.row) v (six_special v)))
 
 pub at_most_52 : AtMost52
 at_most_52 c t k = turn_wide c t k (turned c t)

@@ -42,14 +42,14 @@ placed = Answers.placed
 pub place_only_with_four : claims.PlaceOnlyWithFour
 place_only_with_four = Answers.place_only_with_four
 
-pub fresh-is-sound : claims.FreshIsSound
-fresh-is-sound = Sound.fresh-is-sound
+pub fresh_is_sound : claims.FreshIsSound
+fresh_is_sound = Sound.fresh_is_sound
 
-pub keeps-sound : claims.KeepsSound
-keeps-sound = Sound.keeps-sound
+pub keeps_sound : claims.KeepsSound
+keeps_sound = Sound.keeps_sound
 
-pub step-keeps-sound : claims.StepKeepsSound
-step-keeps-sound = Sound.step-keeps-sound
+pub step_keeps_sound : claims.StepKeepsSound
+step_keeps_sound = Sound.step_keeps_sound
 
 pub run_sound : claims.Sound
 run_sound ts = (Sound.always ts).meets
@@ -66,9 +66,9 @@ not_one false false false false false false true b₇ e = omega arith
 not_one false false false false false false false true e = omega arith
 not_one false false false false false false false false e = omega arith
 
-sound-answer : (c : Call) (bytes buffer : List ℕ) → sound c ≡ true → (step_of c bytes buffer).answer ≡ 1 → ⊥
+sound_answer : (c : Call) (bytes buffer : List ℕ) → sound c ≡ true → (step_of c bytes buffer).answer ≡ 1 → ⊥
 unfolding applies
-sound-answer c bytes buffer s e =
+sound_answer c bytes buffer s e =
     let p : ℕ → Bool = λ n. applies n c bytes buffer in
     let unsound : applies 1 c bytes buffer ≡ false = rw s in
     not_one (p 2) (p 3) (p 9) (p 4) (p 5) (p 6) (p 8) (p 7)
@@ -76,15 +76,15 @@ sound-answer c bytes buffer s e =
 
 pub never_unsound : claims.NeverUnsound
 unfolding outcome
-never_unsound ts t = sound-answer (run fresh_call ts) t.event t.buffer (run_sound ts)
+never_unsound ts t = sound_answer (run fresh_call ts) t.event t.buffer (run_sound ts)
 
 -- ---- demand 2
 
-pub zero-is-taken : claims.Zero
-zero-is-taken = Answers.zero-is-taken
+pub zero_is_taken : claims.Zero
+zero_is_taken = Answers.zero_is_taken
 
-pub taken-gives : claims.Taken
-taken-gives = Answers.taken-gives
+pub taken_gives : claims.Taken
+taken_gives = Answers.taken_gives
 
 pub step_in_range : claims.StepInRange
 step_in_range = WrittenInRange.step_in_range
@@ -95,16 +95,16 @@ no_u_info = WrittenInRange.no_u_info
 pub written_in_range : claims.WrittenInRange
 written_in_range = WrittenInRange.written_in_range
 
-pub reads-back : claims.ReadsBack
-reads-back = ReadsBack.reads-back
+pub reads_back : claims.ReadsBack
+reads_back = ReadsBack.reads_back
 
 -- ---- how large a buffer to lend
 
 pub timers : claims.Timers
 timers = Timers.timers
 
-pub sent-before-t302 : claims.SentBeforeT302
-sent-before-t302 = Timers.sent-before-t302
+pub sent_before_t302 : claims.SentBeforeT302
+sent_before_t302 = Timers.sent_before_t302
 
 pub at_most_32 : claims.AtMost32
 at_most_32 = Bound.at_most_32
@@ -123,8 +123,8 @@ writes_52 = Examples.writes_52
 
 -- ---- demand 3
 
-pub told-by-history : claims.Told
-told-by-history = Told.told-by-history
+pub told_by_history : claims.Told
+told_by_history = Told.told_by_history
 
 pub cut : claims.Cut
 cut = Cut.cut
@@ -135,8 +135,8 @@ restored = Cut.restored
 pub ended : claims.Ended
 ended = Ended.ended
 
-pub ended-off : claims.EndedOff
-ended-off ts t e = Told.told-is-plane (ts ++ t ∷ []) ∙ ap (λ (c : Call). c.plane) (ended ts t e)
+pub ended_off : claims.EndedOff
+ended_off ts t e = Told.told_is_plane (ts ++ t ∷ []) ∙ ap (λ (c : Call). c.plane) (ended ts t e)
 
 pub no_other_end : claims.NoOtherEnd
 no_other_end = Ended.no_other_end
@@ -154,8 +154,8 @@ one_slot = Slotted.one_slot
 
 -- ---- in the client's words
 
-pub idle-is-fresh : claims.IdleIsFresh
-idle-is-fresh = Ended.idle-is-fresh
+pub idle_is_fresh : claims.IdleIsFresh
+idle_is_fresh = Ended.idle_is_fresh
 
 pub identified : claims.Identified
 identified = Identified.identified
@@ -165,8 +165,8 @@ transmits = Identified.transmits
 
 -- ---- no timer left behind
 
-pub timers-by-messages : claims.TimersByMessages
-timers-by-messages = Tracked.timers-by-messages
+pub timers_by_messages : claims.TimersByMessages
+timers_by_messages = Tracked.timers_by_messages
 
 pub none_in_idle : claims.NoneInIdle
 none_in_idle = Tracked.none_in_idle
@@ -180,19 +180,19 @@ one_u_release = Once.one_u_release
 pub release_leaves_fresh : claims.ReleaseLeavesFresh
 release_leaves_fresh = Expiries.release_leaves_fresh
 
-pub late-expiry : claims.LateExpiry
-late-expiry = Expiries.late-expiry
+pub late_expiry : claims.LateExpiry
+late_expiry = Expiries.late_expiry
 
-pub due-expiry : claims.DueExpiry
-due-expiry = Expiries.due-expiry
+pub due_expiry : claims.DueExpiry
+due_expiry = Expiries.due_expiry
 
 -- ---- calls end by their timers alone
 
 pub at_most_three_due : claims.AtMostThreeDue
 at_most_three_due = Lapses.at_most_three_due
 
-pub none-after-three : claims.NoneAfterThree
-none-after-three = Lapses.none-after-three
+pub none_after_three : claims.NoneAfterThree
+none_after_three = Lapses.none_after_three
 
 pub none_runs_lem : claims.NoneRuns
 none_runs_lem = Lapses.none_runs_lem

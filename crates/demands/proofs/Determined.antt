@@ -45,14 +45,14 @@ use Rattle.callcontrol.proofs.settle.next_by.Reads as next-by-promise
 both : {w₁ w₂ : Written × List ℕ} → w₁ ≡ w₂ → (w₁.0 ≡ w₂.0) × (w₁.1 ≡ w₂.1)
 both e = (ap (λ (w : Written × List ℕ). w.0) e, ap (λ (w : Written × List ℕ). w.1) e)
 
-pub read-event : (κs : _) (a : _) (r₁ r₂ : _) (e₁ e₂ : _) → read-event-promise.Learnt κs a r₁ e₁ → read-event-promise.Learnt κs a r₂ e₂ → r₁ ≡ r₂
-read-event κs a r₁ r₂ e₁ e₂ p q = records.read-event _ r₁ r₂ p q
+pub read_event : (κs : _) (a : _) (r₁ r₂ : _) (e₁ e₂ : _) → read-event-promise.Learnt κs a r₁ e₁ → read-event-promise.Learnt κs a r₂ e₂ → r₁ ≡ r₂
+read_event κs a r₁ r₂ e₁ e₂ p q = records.read_event _ r₁ r₂ p q
 
 pub read_message : (κs : _) (a : _) (r₁ r₂ : _) (e₁ e₂ : _) → read-message-promise.Learnt κs a r₁ e₁ → read-message-promise.Learnt κs a r₂ e₂ → r₁ ≡ r₂
 read_message κs a r₁ r₂ e₁ e₂ p q = records.read_message _ r₁ r₂ p q
 
-pub write-event : (κs : _) (a : _) (r₁ r₂ : _) (e₁ e₂ : _) → write-event-promise.Learnt κs a r₁ e₁ → write-event-promise.Learnt κs a r₂ e₂ → (r₁ ≡ r₂) × (e₁.1.0.now ≡ e₂.1.0.now)
-write-event κs a r₁ r₂ e₁ e₂ p q = both (records.write-event a.0 a.1.0.now (r₁, e₁.1.0.now) (r₂, e₂.1.0.now) p q)
+pub write_event : (κs : _) (a : _) (r₁ r₂ : _) (e₁ e₂ : _) → write-event-promise.Learnt κs a r₁ e₁ → write-event-promise.Learnt κs a r₂ e₂ → (r₁ ≡ r₂) × (e₁.1.0.now ≡ e₂.1.0.now)
+write_event κs a r₁ r₂ e₁ e₂ p q = both (records.write_event a.0 a.1.0.now (r₁, e₁.1.0.now) (r₂, e₂.1.0.now) p q)
 
 pub write_message : (κs : _) (a : _) (r₁ r₂ : _) (e₁ e₂ : _) → write-message-promise.Learnt κs a r₁ e₁ → write-message-promise.Learnt κs a r₂ e₂ → (r₁ ≡ r₂) × (e₁.1.0.now ≡ e₂.1.0.now)
 write_message κs a r₁ r₂ e₁ e₂ p q = both (records.write_message a.0 a.1.0.now (r₁, e₁.1.0.now) (r₂, e₂.1.0.now) p q)
@@ -75,8 +75,8 @@ slots_fit κs a r₁ r₂ e₁ e₂ p q = p ∙ sym q
 pub word_fits : (κs : _) (a : _) (r₁ r₂ : _) (e₁ e₂ : _) → word-fits-promise.Learnt κs a r₁ e₁ → word-fits-promise.Learnt κs a r₂ e₂ → r₁ ≡ r₂
 word_fits κs a r₁ r₂ e₁ e₂ p q = p ∙ sym q
 
-pub long-fits : (κs : _) (a : _) (r₁ r₂ : _) (e₁ e₂ : _) → long-fits-promise.Learnt κs a r₁ e₁ → long-fits-promise.Learnt κs a r₂ e₂ → r₁ ≡ r₂
-long-fits κs a r₁ r₂ e₁ e₂ p q = p ∙ sym q
+pub long_fits : (κs : _) (a : _) (r₁ r₂ : _) (e₁ e₂ : _) → long-fits-promise.Learnt κs a r₁ e₁ → long-fits-promise.Learnt κs a r₂ e₂ → r₁ ≡ r₂
+long_fits κs a r₁ r₂ e₁ e₂ p q = p ∙ sym q
 
 -- ---- callcontrol
 
@@ -95,8 +95,8 @@ unread κs a r₁ r₂ e₁ e₂ p q = p ∙ sym q
 pub place_in_lem : (κs : _) (a : _) (r₁ r₂ : _) (e₁ e₂ : _) → place-in-promise.Learnt κs a r₁ e₁ → place-in-promise.Learnt κs a r₂ e₂ → r₁ ≡ r₂
 place_in_lem κs a r₁ r₂ e₁ e₂ p q = p ∙ sym q
 
-pub answer-number : (κs : _) (a : _) (r₁ r₂ : _) (e₁ e₂ : _) → answer-number-promise.Learnt κs a r₁ e₁ → answer-number-promise.Learnt κs a r₂ e₂ → r₁ ≡ r₂
-answer-number κs a r₁ r₂ e₁ e₂ p q = p.0 ∙ sym q.0
+pub answer_number_lem : (κs : _) (a : _) (r₁ r₂ : _) (e₁ e₂ : _) → answer-number-promise.Learnt κs a r₁ e₁ → answer-number-promise.Learnt κs a r₂ e₂ → r₁ ≡ r₂
+answer_number_lem κs a r₁ r₂ e₁ e₂ p q = p.0 ∙ sym q.0
 
 pub fresh : (κs : _) (a : _) (r₁ r₂ : _) (e₁ e₂ : _) → fresh-promise.Learnt κs a r₁ e₁ → fresh-promise.Learnt κs a r₂ e₂ → r₁ ≡ r₂
 fresh κs a r₁ r₂ e₁ e₂ p q = p ∙ sym q
@@ -104,46 +104,46 @@ fresh κs a r₁ r₂ e₁ e₂ p q = p ∙ sym q
 pub sound : (κs : _) (a : _) (r₁ r₂ : _) (e₁ e₂ : _) → sound-promise.Learnt κs a r₁ e₁ → sound-promise.Learnt κs a r₂ e₂ → r₁ ≡ r₂
 sound κs a r₁ r₂ e₁ e₂ p q = p ∙ sym q
 
-pub is-idle : (κs : _) (a : _) (r₁ r₂ : _) (e₁ e₂ : _) → is-idle-promise.Learnt κs a r₁ e₁ → is-idle-promise.Learnt κs a r₂ e₂ → r₁ ≡ r₂
-is-idle κs a r₁ r₂ e₁ e₂ p q = p ∙ sym q
+pub is_idle : (κs : _) (a : _) (r₁ r₂ : _) (e₁ e₂ : _) → is-idle-promise.Learnt κs a r₁ e₁ → is-idle-promise.Learnt κs a r₂ e₂ → r₁ ≡ r₂
+is_idle κs a r₁ r₂ e₁ e₂ p q = p ∙ sym q
 
-pub state-number : (κs : _) (a : _) (r₁ r₂ : _) (e₁ e₂ : _) → state-number-promise.Learnt κs a r₁ e₁ → state-number-promise.Learnt κs a r₂ e₂ → r₁ ≡ r₂
-state-number κs a r₁ r₂ e₁ e₂ p q = p ∙ sym q
+pub state_number : (κs : _) (a : _) (r₁ r₂ : _) (e₁ e₂ : _) → state-number-promise.Learnt κs a r₁ e₁ → state-number-promise.Learnt κs a r₂ e₂ → r₁ ≡ r₂
+state_number κs a r₁ r₂ e₁ e₂ p q = p ∙ sym q
 
-pub path-number : (κs : _) (a : _) (r₁ r₂ : _) (e₁ e₂ : _) → path-number-promise.Learnt κs a r₁ e₁ → path-number-promise.Learnt κs a r₂ e₂ → r₁ ≡ r₂
-path-number κs a r₁ r₂ e₁ e₂ p q = p ∙ sym q
+pub path_number : (κs : _) (a : _) (r₁ r₂ : _) (e₁ e₂ : _) → path-number-promise.Learnt κs a r₁ e₁ → path-number-promise.Learnt κs a r₂ e₂ → r₁ ≡ r₂
+path_number κs a r₁ r₂ e₁ e₂ p q = p ∙ sym q
 
 pub transmits : (κs : _) (a : _) (r₁ r₂ : _) (e₁ e₂ : _) → transmits-promise.Learnt κs a r₁ e₁ → transmits-promise.Learnt κs a r₂ e₂ → r₁ ≡ r₂
 transmits κs a r₁ r₂ e₁ e₂ p q = p ∙ sym q
 
 -- ---- callcontrol, for an engine of another shape
 
-pub row-none : (κs : _) (a : _) (r₁ r₂ : _) (e₁ e₂ : _) → row-none-promise.Learnt κs a r₁ e₁ → row-none-promise.Learnt κs a r₂ e₂ → r₁ ≡ r₂
-row-none κs a r₁ r₂ e₁ e₂ p q = p ∙ sym q
+pub row_none : (κs : _) (a : _) (r₁ r₂ : _) (e₁ e₂ : _) → row-none-promise.Learnt κs a r₁ e₁ → row-none-promise.Learnt κs a r₂ e₂ → r₁ ≡ r₂
+row_none κs a r₁ r₂ e₁ e₂ p q = p ∙ sym q
 
-pub plane-granted : (κs : _) (a : _) (r₁ r₂ : _) (e₁ e₂ : _) → plane-granted-promise.Learnt κs a r₁ e₁ → plane-granted-promise.Learnt κs a r₂ e₂ → r₁ ≡ r₂
-plane-granted κs a r₁ r₂ e₁ e₂ p q = p.0 ∙ sym q.0
+pub plane_granted : (κs : _) (a : _) (r₁ r₂ : _) (e₁ e₂ : _) → plane-granted-promise.Learnt κs a r₁ e₁ → plane-granted-promise.Learnt κs a r₂ e₂ → r₁ ≡ r₂
+plane_granted κs a r₁ r₂ e₁ e₂ p q = p.0 ∙ sym q.0
 
 pub plane_or_off : (κs : _) (a : _) (r₁ r₂ : _) (e₁ e₂ : _) → plane-or-off-promise.Learnt κs a r₁ e₁ → plane-or-off-promise.Learnt κs a r₂ e₂ → r₁ ≡ r₂
 plane_or_off κs a r₁ r₂ e₁ e₂ p q = p.0 ∙ sym q.0
 
-pub asked-after : (κs : _) (a : _) (r₁ r₂ : _) (e₁ e₂ : _) → asked-after-promise.Learnt κs a r₁ e₁ → asked-after-promise.Learnt κs a r₂ e₂ → r₁ ≡ r₂
-asked-after κs a r₁ r₂ e₁ e₂ p q = p ∙ sym q
+pub asked_after : (κs : _) (a : _) (r₁ r₂ : _) (e₁ e₂ : _) → asked-after-promise.Learnt κs a r₁ e₁ → asked-after-promise.Learnt κs a r₂ e₂ → r₁ ≡ r₂
+asked_after κs a r₁ r₂ e₁ e₂ p q = p ∙ sym q
 
 pub restarting : (κs : _) (a : _) (r₁ r₂ : _) (e₁ e₂ : _) → restarting-promise.Learnt κs a r₁ e₁ → restarting-promise.Learnt κs a r₂ e₂ → r₁ ≡ r₂
 restarting κs a r₁ r₂ e₁ e₂ p q = p.0 ∙ sym q.0
 
-pub code-after : (κs : _) (a : _) (r₁ r₂ : _) (e₁ e₂ : _) → code-after-promise.Learnt κs a r₁ e₁ → code-after-promise.Learnt κs a r₂ e₂ → r₁ ≡ r₂
-code-after κs a r₁ r₂ e₁ e₂ p q = p ∙ sym q
+pub code_after : (κs : _) (a : _) (r₁ r₂ : _) (e₁ e₂ : _) → code-after-promise.Learnt κs a r₁ e₁ → code-after-promise.Learnt κs a r₂ e₂ → r₁ ≡ r₂
+code_after κs a r₁ r₂ e₁ e₂ p q = p ∙ sym q
 
-pub slots-after : (κs : _) (a : _) (r₁ r₂ : _) (e₁ e₂ : _) → slots-after-promise.Learnt κs a r₁ e₁ → slots-after-promise.Learnt κs a r₂ e₂ → r₁ ≡ r₂
-slots-after κs a r₁ r₂ e₁ e₂ p q = p ∙ sym q
+pub slots_after : (κs : _) (a : _) (r₁ r₂ : _) (e₁ e₂ : _) → slots-after-promise.Learnt κs a r₁ e₁ → slots-after-promise.Learnt κs a r₂ e₂ → r₁ ≡ r₂
+slots_after κs a r₁ r₂ e₁ e₂ p q = p ∙ sym q
 
-pub asked-after-cut : (κs : _) (a : _) (r₁ r₂ : _) (e₁ e₂ : _) → asked-after-cut-promise.Learnt κs a r₁ e₁ → asked-after-cut-promise.Learnt κs a r₂ e₂ → r₁ ≡ r₂
-asked-after-cut κs a r₁ r₂ e₁ e₂ p q = p ∙ sym q
+pub asked_after_cut : (κs : _) (a : _) (r₁ r₂ : _) (e₁ e₂ : _) → asked-after-cut-promise.Learnt κs a r₁ e₁ → asked-after-cut-promise.Learnt κs a r₂ e₂ → r₁ ≡ r₂
+asked_after_cut κs a r₁ r₂ e₁ e₂ p q = p ∙ sym q
 
 pub asks : (κs : _) (a : _) (r₁ r₂ : _) (e₁ e₂ : _) → asks-promise.Learnt κs a r₁ e₁ → asks-promise.Learnt κs a r₂ e₂ → r₁ ≡ r₂
 asks κs a r₁ r₂ e₁ e₂ p q = p ∙ sym q
 
-pub next-by : (κs : _) (a : _) (r₁ r₂ : _) (e₁ e₂ : _) → next-by-promise.Learnt κs a r₁ e₁ → next-by-promise.Learnt κs a r₂ e₂ → r₁ ≡ r₂
-next-by κs a r₁ r₂ e₁ e₂ p q = p ∙ sym q
+pub next_by : (κs : _) (a : _) (r₁ r₂ : _) (e₁ e₂ : _) → next-by-promise.Learnt κs a r₁ e₁ → next-by-promise.Learnt κs a r₂ e₂ → r₁ ≡ r₂
+next_by κs a r₁ r₂ e₁ e₂ p q = p ∙ sym q

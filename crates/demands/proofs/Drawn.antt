@@ -77,9 +77,9 @@ configured p t user true plain = held_plain p user plain
 configured p t user false plain = held_plain t user plain
 
 -- what the lower layers were last told after a row: what its CONFIGURE tells, or what they were told before
-pub messages-tell : (p : ℕ) (d : Draft) → PlainSlot d.pdu → PlainSlot d.user → last_told p (messages_in d) ≡ cond (eqb d.configure 0) p d.configure
+pub messages_tell : (p : ℕ) (d : Draft) → PlainSlot d.pdu → PlainSlot d.user → last_told p (messages_in d) ≡ cond (eqb d.configure 0) p d.configure
 unfolding messages_in
-messages-tell p d pdu user =
+messages_tell p d pdu user =
     passed p _ _ (by_number_plain p Message.Stop d.stops stop_plain)
     ∙ passed p _ _ (when_plain p d.cancel Message.Cancel cancel_plain)
     ∙ passed p _ _ (held_plain p d.pdu pdu)
@@ -94,10 +94,10 @@ pub data Tells (was plane : ℕ) : ℕ → Type 0 where
   loud : Tells was plane plane
 
 pub record Facts (was : ℕ) (s : State) (p m k : ℕ) (state : State) (plane mode kept told : ℕ) (pdu user : Slot) : Type 0 where
-  pub state-is : state ≡ s
-  pub plane-is : plane ≡ p
-  pub mode-is : mode ≡ m
-  pub kept-is : kept ≡ k
+  pub state_is : state ≡ s
+  pub plane_is : plane ≡ p
+  pub mode_is : mode ≡ m
+  pub kept_is : kept ≡ k
   pub tells : Tells was p told
   pub pdu_plain : PlainSlot pdu
   pub user_plain : PlainSlot user
@@ -109,7 +109,7 @@ pub record Drawn (c : Call) (s : State) (p m k : ℕ) (d : Draft) : Type 0 where
 drawn : {c : Call} {s : State} {p m k : ℕ} {d : Draft} → d.call.state ≡ s → d.call.plane ≡ p → d.call.mode ≡ m → d.call.kept ≡ k
     → Tells c.plane p d.configure → PlainSlot d.pdu → PlainSlot d.user → Drawn c s p m k d
 drawn state plane mode kept tells pdu user =
-    record { is = record { state-is = state; plane-is = plane; mode-is = mode; kept-is = kept; tells = tells; pdu_plain = pdu; user_plain = user } }
+    record { is = record { state_is = state; plane_is = plane; mode_is = mode; kept_is = kept; tells = tells; pdu_plain = pdu; user_plain = user } }
 
 pub begun : {c : Call} {s : State} {p m : ℕ} → c.state ≡ s → c.plane ≡ p → c.mode ≡ m → Drawn c s p m c.kept (draft c)
 unfolding draft
@@ -124,9 +124,9 @@ on_plane x d =
 module _ {c : Call} {s : State} {p m k : ℕ} {d : Draft} where
   -- verbs that change none of it
 
-  pub on-path : (x : Path) → Drawn c s p m k d → Drawn c s p m k (on_path x d)
+  pub on_path_lem : (x : Path) → Drawn c s p m k d → Drawn c s p m k (on_path x d)
   unfolding on_path
-  on-path x f = record { is = f.is }
+  on_path_lem x f = record { is = f.is }
 
   pub named : (x : ℕ) → Drawn c s p m k d → Drawn c s p m k (store_id x d)
   unfolding store_id
@@ -164,9 +164,9 @@ module _ {c : Call} {s : State} {p m k : ℕ} {d : Draft} where
   unfolding expired
   ran_out x f = record { is = f.is }
 
-  pub stopped-all : Drawn c s p m k d → Drawn c s p m k (stop_all d)
+  pub stopped_all : Drawn c s p m k d → Drawn c s p m k (stop_all d)
   unfolding stop_all stop
-  stopped-all f = record { is = f.is }
+  stopped_all f = record { is = f.is }
 
   pub cancelled : Drawn c s p m k d → Drawn c s p m k (cancel d)
   unfolding cancel
@@ -176,11 +176,11 @@ module _ {c : Call} {s : State} {p m k : ℕ} {d : Draft} where
 
   pub saying : (x : Message) → Plain x → Drawn c s p m k d → Drawn c s p m k (say x d)
   unfolding say
-  saying x plain f = let g = f.is in drawn g.state-is g.plane-is g.mode-is g.kept-is g.tells plain g.user_plain
+  saying x plain f = let g = f.is in drawn g.state_is g.plane_is g.mode_is g.kept_is g.tells plain g.user_plain
 
   pub telling : (x : Message) → Plain x → Drawn c s p m k d → Drawn c s p m k (tell x d)
   unfolding tell
-  telling x plain f = let g = f.is in drawn g.state-is g.plane-is g.mode-is g.kept-is g.tells g.pdu_plain plain
+  telling x plain f = let g = f.is in drawn g.state_is g.plane_is g.mode_is g.kept_is g.tells g.pdu_plain plain
 
   pub telling_modified : (x : ℕ) → Drawn c s p m k d → Drawn c s p m k (tell_modified x d)
   unfolding tell_modified told_after
@@ -190,45 +190,45 @@ module _ {c : Call} {s : State} {p m k : ℕ} {d : Draft} where
 
   pub gone : (x : State) → Drawn c s p m k d → Drawn c x p m 4 (go x d)
   unfolding go
-  gone x f = let g = f.is in drawn refl g.plane-is g.mode-is refl g.tells g.pdu_plain g.user_plain
+  gone x f = let g = f.is in drawn refl g.plane_is g.mode_is refl g.tells g.pdu_plain g.user_plain
 
   pub in_mode : (x : ℕ) → Drawn c s p m k d → Drawn c s p x k (store_mode x d)
   unfolding store_mode
-  in_mode x f = let g = f.is in drawn g.state-is g.plane-is refl g.kept-is g.tells g.pdu_plain g.user_plain
+  in_mode x f = let g = f.is in drawn g.state_is g.plane_is refl g.kept_is g.tells g.pdu_plain g.user_plain
 
   pub keeping : (x : ℕ) → Drawn c s p m k d → Drawn c s p m x (keep x d)
   unfolding keep
-  keeping x f = let g = f.is in drawn g.state-is g.plane-is g.mode-is refl g.tells g.pdu_plain g.user_plain
+  keeping x f = let g = f.is in drawn g.state_is g.plane_is g.mode_is refl g.tells g.pdu_plain g.user_plain
 
-  pub told-again : Drawn c s p m k d → Drawn c s p m k (same_plane d)
+  pub told_again : Drawn c s p m k d → Drawn c s p m k (same_plane d)
   unfolding same_plane
-  told-again f = let g = f.is in drawn g.state-is g.plane-is g.mode-is g.kept-is (rw g.plane-is loud) g.pdu_plain g.user_plain
+  told_again f = let g = f.is in drawn g.state_is g.plane_is g.mode_is g.kept_is (rw g.plane_is loud) g.pdu_plain g.user_plain
 
   -- a plane
 
-  told-plane : (x : ℕ) → Drawn c s p m k d → Drawn c s x m k (same_plane (on_plane x d))
+  told_plane : (x : ℕ) → Drawn c s p m k d → Drawn c s x m k (same_plane (on_plane x d))
   unfolding same_plane
-  told-plane x f = let g = f.is in drawn g.state-is refl g.mode-is g.kept-is loud g.pdu_plain g.user_plain
+  told_plane x f = let g = f.is in drawn g.state_is refl g.mode_is g.kept_is loud g.pdu_plain g.user_plain
 
   timed : (b : Bool) → Drawn c s p m k d → Drawn c s p m k (cond b (start T311) (stop T311) d)
   timed true f = started T311 f
   timed false f = stopped T311 f
 
-restart-by : {c : Call} {s : State} {p m k : ℕ} {d : Draft} (b : Bool) (o : ℕ) → Drawn c s p m k d → Drawn c s p m k (cond b (start T310 (store_code o d)) d)
-restart-by true o f = f ▷ coded o ▷ started T310
-restart-by false o f = f
+restart_by : {c : Call} {s : State} {p m k : ℕ} {d : Draft} (b : Bool) (o : ℕ) → Drawn c s p m k d → Drawn c s p m k (cond b (start T310 (store_code o d)) d)
+restart_by true o f = f ▷ coded o ▷ started T310
+restart_by false o f = f
 
 pub restarted : {c : Call} {s : State} {p m k : ℕ} {d : Draft} (r o : ℕ) → Drawn c s p m k d → Drawn c s p m k (restart r o d)
 unfolding restart
-restarted {d} r o f = restart-by (eqb r 1) (cond (eqb o 16) d.call.code o) f
+restarted {d} r o f = restart_by (eqb r 1) (cond (eqb o 16) d.call.code o) f
 
-pub at-plane : {c : Call} {s : State} {p m k : ℕ} {d : Draft} (x : ℕ) → Drawn c s p m k d → Drawn c s x m k (plane x d)
+pub at_plane : {c : Call} {s : State} {p m k : ℕ} {d : Draft} (x : ℕ) → Drawn c s p m k d → Drawn c s x m k (plane x d)
 unfolding plane
-at-plane x f = timed (eqb x 1) (told-plane x f)
+at_plane x f = timed (eqb x 1) (told_plane x f)
 
-pub switched-off : {c : Call} {s : State} {p m k : ℕ} {d : Draft} → Drawn c s p m k d → Drawn c s 4 m k (off d)
+pub switched_off : {c : Call} {s : State} {p m k : ℕ} {d : Draft} → Drawn c s p m k d → Drawn c s 4 m k (off d)
 unfolding off
-switched-off f = at-plane 4 f
+switched_off f = at_plane 4 f
 
 -- the end of a call leaves the fresh record, whose plane is off
 pub ended : {c : Call} {s : State} {m k : ℕ} {d : Draft} → Drawn c s 4 m k d → Drawn c State.Idle 4 0 4 (over d)
@@ -238,24 +238,24 @@ ended f = let g = f.is in drawn refl refl refl refl g.tells g.pdu_plain g.user_p
 pub releases : {c : Call} {s : State} {p m k : ℕ} {d : Draft} (cause : ℕ) → Drawn c s p m k d → Drawn c State.CallDisconnect 4 m 4 (release cause d)
 unfolding release told_after
 releases cause f =
-    f ▷ stopped-all ▷ saying _ (λ q. refl) ▷ started T308 ▷ switched-off ▷ sending 0 ▷ asking 0 ▷ on-path Path.Up ▷ gone State.CallDisconnect
+    f ▷ stopped_all ▷ saying _ (λ q. refl) ▷ started T308 ▷ switched_off ▷ sending 0 ▷ asking 0 ▷ on_path_lem Path.Up ▷ gone State.CallDisconnect
 
 -- grant rule G
 module _ {c : Call} {s : State} {m k : ℕ} where
-  grant-by : {p : ℕ} {d : Draft} → Drawn c s p m k d → (zero one three : Bool) → (one ≡ true → three ≡ false) →
+  grant_by : {p : ℕ} {d : Draft} → Drawn c s p m k d → (zero one three : Bool) → (one ≡ true → three ≡ false) →
       Drawn c s (cond zero (cond (eqb m 1) 3 1) (cond three 2 p)) m k
       (cond zero (plane (cond (eqb d.call.mode 1) 3 1) (store_asked 0 d)) (cond one (store_asked 0 d) (cond three (plane 2 d) d)))
-  grant-by {p} {d} f true one three no_both =
+  grant_by {p} {d} f true one three no_both =
       let x : ℕ = cond (eqb d.call.mode 1) 3 1 in
-      subst (λ y. Drawn c s (cond (eqb y 1) 3 1) m k (plane x (store_asked 0 d))) f.is.mode-is (f ▷ asking 0 ▷ at-plane x)
-  grant-by f false true true no_both = let z : true ≡ false = no_both refl in absurd (true≢false z)
-  grant-by f false true false no_both = asking 0 f
-  grant-by f false false true no_both = at-plane 2 f
-  grant-by f false false false no_both = f
+      subst (λ y. Drawn c s (cond (eqb y 1) 3 1) m k (plane x (store_asked 0 d))) f.is.mode_is (f ▷ asking 0 ▷ at_plane x)
+  grant_by f false true true no_both = let z : true ≡ false = no_both refl in absurd (true≢false z)
+  grant_by f false true false no_both = asking 0 f
+  grant_by f false false true no_both = at_plane 2 f
+  grant_by f false false false no_both = f
 
   pub grants : {p : ℕ} {d : Draft} (g : ℕ) → Drawn c s p m k d → Drawn c s (granted g m p) m k (grant g d)
   unfolding grant
-  grants g f = grant-by f (eqb g 0) (eqb g 1) (eqb g 3) (λ one. rw (eqb-true g 1 one))
+  grants g f = grant_by f (eqb g 0) (eqb g 1) (eqb g 3) (λ one. rw (eqb-true g 1 one))
 
   -- from off, a grant that gives no plane leaves off
   pub grants_or_off : {d : Draft} (g : ℕ) → Drawn c s 4 m k d → Drawn c s (granted g m 4) m k (grant_or_off g d)
@@ -267,5 +267,5 @@ module _ {c : Call} {s : State} {m k : ℕ} where
       ungranted g false e h = rw (eqb-true g 2 h)
 
       by : (b : Bool) → (b ≡ true → granted g m 4 ≡ 4) → Drawn c s (granted g m 4) m k (cond b (off (grant g d)) (grant g d))
-      by true four = rw (four refl) (switched-off (grants g f))
+      by true four = rw (four refl) (switched_off (grants g f))
       by false four = grants g f

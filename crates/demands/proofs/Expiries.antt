@@ -30,14 +30,14 @@ use Rattle.demands.specs.Clocks.{log_in, index_of, runs_by}
 use Rattle.demands.specs.Demands.{Kept, ReleaseLeavesFresh, LateExpiry, DueExpiry}
 use Rattle.demands.proofs.Facts.{apart, left, right, second}
 use Rattle.demands.proofs.ByRow.{Ender, t301, t302, t303, t306, t310, Row, Cell, cell, row, no_row_lem}
-use Rattle.demands.proofs.Reading.{read-fine}
+use Rattle.demands.proofs.Reading.{read_fine}
 use Rattle.demands.proofs.Situations.{call, At, idle, mo, mt, up, broken, restoring, wait, disconnect, situated}
-use Rattle.demands.proofs.Sound.{step-keeps-sound, always}
+use Rattle.demands.proofs.Sound.{step_keeps_sound, always}
 use Rattle.demands.proofs.Turns.{accepted, by_tests, run-append}
 use Rattle.demands.proofs.Timers as Timers
-use Rattle.demands.proofs.Timers.{Timed, Clocked, reached, turn-kept, Open, open_up, open_broken, open_restoring, open_wait}
-use Rattle.demands.proofs.Bound.{row-short}
-use Rattle.demands.proofs.Tracked.{timers-by-messages}
+use Rattle.demands.proofs.Timers.{Timed, Clocked, reached, turn_kept, Open, open_up, open_broken, open_restoring, open_wait}
+use Rattle.demands.proofs.Bound.{row_short}
+use Rattle.demands.proofs.Tracked.{timers_by_messages}
 
 -- ---- what a turn makes of an event that was read, in a reached record
 
@@ -58,7 +58,7 @@ module _ (c : Call) (t : Turn) (e : Event) (k : Kept c) (reads : read events t.e
   taken_32 : Clocked c → (row_for c e).taken ≡ true → 32 ≤ length t.buffer → outcome c t ≡ accepted (row_for c e) t.buffer
   unfolding fits
   taken_32 v h room =
-      let enough : fits ≡ true = le-leb (length (bytes_of (messages_in (row_for c e)))) (length t.buffer) (omega (arith, row-short c e k v h)) in
+      let enough : fits ≡ true = le-leb (length (bytes_of (messages_in (row_for c e)))) (length t.buffer) (omega (arith, row_short c e k v h)) in
       by_tests_lem ∙ (λ i. by_tests (ours i) (h i) (silent i) (enough i) c (row_for c e) t.buffer)
 
   takes_32 : Clocked c → (row_for c e).taken ≡ true → 32 ≤ length t.buffer → taken_by c t ≡ some e
@@ -90,37 +90,37 @@ ender_runs c {n = n} (t303 e) h = rw (eqb-true n 303 e) h
 ender_runs c {n = n} (t306 e) h = rw (eqb-true n 306 e) h
 ender_runs c {n = n} (t310 e) h = rw (eqb-true n 310 e) h
 
-row-runs : {c : Call} {s : State} {w : Path} {n : ℕ} {x : Draft} → Row c s w (Expiry n) x → runs c (index_of n) ≡ true
+row_runs : {c : Call} {s : State} {w : Path} {n : ℕ} {x : Draft} → Row c s w (Expiry n) x → runs c (index_of n) ≡ true
 unfolding index_of
-row-runs {c} (Row.expires l n k t z) = ender_runs c t z
-row-runs (Row.talked_out n z y) = rw (eqb-true n 311 z) y
-row-runs {c} (Row.unanswered n z) = rw (eqb-true n 308 (left _ _ z)) (right (eqb n 308) _ z)
+row_runs {c} (Row.expires l n k t z) = ender_runs c t z
+row_runs (Row.talked_out n z y) = rw (eqb-true n 311 z) y
+row_runs {c} (Row.unanswered n z) = rw (eqb-true n 308 (left _ _ z)) (right (eqb n 308) _ z)
 
-late-row : (c : Call) (n : ℕ) → runs c (index_of n) ≡ false → (row_for c (Expiry n)).taken ≡ false
+late_row : (c : Call) (n : ℕ) → runs c (index_of n) ≡ false → (row_for c (Expiry n)).taken ≡ false
 unfolding no_row
-late-row c n h = by_cell (cell c (Expiry n))
+late_row c n h = by_cell (cell c (Expiry n))
   where
     by_cell : {x : Draft} → Cell c c.state c.path (Expiry n) x → x.taken ≡ false
     by_cell no_row_lem = refl
-    by_cell (row r) = apart (row-runs r) h
+    by_cell (row r) = apart (row_runs r) h
 
-pub by-messages : (ts : List Turn) (n : ℕ) → runs_by (log_in fresh_call ts) n ≡ runs (run fresh_call ts) (index_of n)
-by-messages ts n = ap (λ (f : List Bool). get_or f (index_of n) false) (timers-by-messages ts)
+pub by_messages : (ts : List Turn) (n : ℕ) → runs_by (log_in fresh_call ts) n ≡ runs (run fresh_call ts) (index_of n)
+by_messages ts n = ap (λ (f : List Bool). get_or f (index_of n) false) (timers_by_messages ts)
 
-pub late-expiry : LateExpiry
-late-expiry ts t n reads late =
+pub late_expiry : LateExpiry
+late_expiry ts t n reads late =
     let c = run fresh_call ts in
-    refused_6 c t (Expiry n) (always ts) reads (expiry_ours c n) refl (late-row c n (sym (by-messages ts n) ∙ late))
+    refused_6 c t (Expiry n) (always ts) reads (expiry_ours c n) refl (late_row c n (sym (by_messages ts n) ∙ late))
 
 -- ---- and a timer that runs has a row
 
 abbrev due : ℕ → ℕ → Call → Bool
 due n k c = not (runs c k) || (row_for c (Expiry n)).taken
 
-abbrev all-due : Call → Bool
-all-due c = due 301 T301 c && due 302 T302 c && due 303 T303 c && due 306 T306 c && due 308 T308 c && due 310 T310 c && due 311 T311 c
+abbrev all_due : Call → Bool
+all_due c = due 301 T301 c && due 302 T302 c && due 303 T303 c && due 306 T306 c && due 308 T308 c && due 310 T310 c && due 311 T311 c
 
-open_due : (c : Call) {s : State} {w : Path} → Open s w c → all-due c ≡ true
+open_due : (c : Call) {s : State} {w : Path} → Open s w c → all_due c ≡ true
 unfolding verbs Rows.releasing Rows.timed_out Rows.expiry Rows.idle Rows.mo_call_setup Rows.mt_call_setup Rows.active_expiry Rows.active_up Rows.active_broken Rows.active_restoring Rows.wait Rows.confirmed Rows.call_disconnect Rows.active Rows.in_state row_for
 open_due c (open_up {u = true} {t = true}) = refl
 open_due c (open_up {u = true} {t = false}) = refl
@@ -133,18 +133,18 @@ open_due c (open_restoring {u = false}) = refl
 open_due c (open_wait {u = true}) = refl
 open_due c (open_wait {u = false}) = refl
 
-rows-due : {s : State} {w : Path} {c : Call} → Timed s w c → all-due c ≡ true
+rows_due : {s : State} {w : Path} {c : Call} → Timed s w c → all_due c ≡ true
 unfolding verbs Rows.releasing Rows.timed_out Rows.expiry Rows.idle Rows.mo_call_setup Rows.mt_call_setup Rows.active_expiry Rows.active_up Rows.active_broken Rows.active_restoring Rows.wait Rows.confirmed Rows.call_disconnect Rows.active Rows.in_state row_for
-rows-due Timers.idle = refl
-rows-due (Timers.mo {t = true} h) = refl
-rows-due (Timers.mo {t = false} h) = refl
-rows-due (Timers.mt {t = true}) = refl
-rows-due (Timers.mt {t = false}) = refl
-rows-due {c} Timers.up = open_due c open_up
-rows-due {c} Timers.broken = open_due c open_broken
-rows-due {c} Timers.restoring = open_due c open_restoring
-rows-due {c} Timers.wait = open_due c open_wait
-rows-due Timers.disconnect = refl
+rows_due Timers.idle = refl
+rows_due (Timers.mo {t = true} h) = refl
+rows_due (Timers.mo {t = false} h) = refl
+rows_due (Timers.mt {t = true}) = refl
+rows_due (Timers.mt {t = false}) = refl
+rows_due {c} Timers.up = open_due c open_up
+rows_due {c} Timers.broken = open_due c open_broken
+rows_due {c} Timers.restoring = open_due c open_restoring
+rows_due {c} Timers.wait = open_due c open_wait
+rows_due Timers.disconnect = refl
 
 -- one of the seven
 
@@ -152,9 +152,9 @@ pick : {A : Type 0} (a b : Bool) → (a || b) ≡ true → (a ≡ true → A) �
 pick true b h f g = f refl
 pick false b h f g = g h
 
-seven-timers : (P : ℕ → Type 0) → P 301 → P 302 → P 303 → P 306 → P 308 → P 310 → P 311 → (n : ℕ) → is_timer n ≡ true → P n
+seven_timers : (P : ℕ → Type 0) → P 301 → P 302 → P 303 → P 306 → P 308 → P 310 → P 311 → (n : ℕ) → is_timer n ≡ true → P n
 unfolding is_timer
-seven-timers P p₁ p₂ p₃ p₆ p₈ p₁₀ p₁₁ n h =
+seven_timers P p₁ p₂ p₃ p₆ p₈ p₁₀ p₁₁ n h =
     pick _ _ h
     (λ h. pick _ _ h
     (λ h. pick _ _ h
@@ -170,17 +170,17 @@ seven-timers P p₁ p₂ p₃ p₆ p₈ p₁₀ p₁₁ n h =
     is : (m : ℕ) → P m → eqb n m ≡ true → P n
     is m p e = rw (eqb-true n m e) p
 
-is-timer : (n : ℕ) → fine events (Expiry n) ≡ true → is_timer n ≡ true
+is_timer_lem : (n : ℕ) → fine events (Expiry n) ≡ true → is_timer n ≡ true
 unfolding fine flat_fits all_fit
-is-timer n h = left _ _ (left _ _ h)
+is_timer_lem n h = left _ _ (left _ _ h)
 
 ripe : (n k : ℕ) (c : Call) → due n k c ≡ true → runs c k ≡ true → (row_for c (Expiry n)).taken ≡ true
 ripe n k c d z = second (not (runs c k)) _ d (rw z)
 
-due-row : (c : Call) (n : ℕ) → all-due c ≡ true → is_timer n ≡ true → runs c (index_of n) ≡ true → (row_for c (Expiry n)).taken ≡ true
+due_row : (c : Call) (n : ℕ) → all_due c ≡ true → is_timer n ≡ true → runs c (index_of n) ≡ true → (row_for c (Expiry n)).taken ≡ true
 unfolding index_of
-due-row c n h =
-    seven-timers (λ m. runs c (index_of m) ≡ true → (row_for c (Expiry m)).taken ≡ true)
+due_row c n h =
+    seven_timers (λ m. runs c (index_of m) ≡ true → (row_for c (Expiry m)).taken ≡ true)
     (ripe 301 T301 c (search (left, right) depth 8))
     (ripe 302 T302 c (search (left, right) depth 8))
     (ripe 303 T303 c (search (left, right) depth 8))
@@ -190,11 +190,11 @@ due-row c n h =
     (ripe 311 T311 c (search (left, right) depth 8))
     n
 
-pub due-expiry : DueExpiry
-due-expiry ts t n reads runs-now room =
+pub due_expiry : DueExpiry
+due_expiry ts t n reads runs-now room =
     let c = run fresh_call ts in
     takes_32 c t (Expiry n) (always ts) reads (expiry_ours c n) refl (reached ts)
-    (due-row c n (rows-due (reached ts)) (is-timer n (read-fine t.event (Expiry n) reads)) (sym (by-messages ts n) ∙ runs-now)) room
+    (due_row c n (rows_due (reached ts)) (is_timer_lem n (read_fine t.event (Expiry n) reads)) (sym (by_messages ts n) ∙ runs-now)) room
 
 -- ---- RELEASE request, and then T308
 
@@ -233,7 +233,7 @@ unfolding run next outcome
 release_leaves_fresh ts t u asks lapses room room' =
     let c = run fresh_call ts in
     let first : next c t ≡ left_by ReleaseRequest c = leaves_32 c t ReleaseRequest (always ts) asks (release_ours c) refl (reached ts) room _ refl in
-    let kept : Kept (next c t) = step-keeps-sound c t.event t.buffer (always ts) in
+    let kept : Kept (next c t) = step_keeps_sound c t.event t.buffer (always ts) in
     let then : next (next c t) u ≡ left_by (Expiry 308) (next c t)
-    = leaves_32 (next c t) u (Expiry 308) kept lapses (expiry_ours (next c t) 308) refl (turn-kept c t (reached ts)) room' _ refl in
+    = leaves_32 (next c t) u (Expiry 308) kept lapses (expiry_ours (next c t) 308) refl (turn_kept c t (reached ts)) room' _ refl in
     run-append fresh_call ts (t ∷ u ∷ []) ∙ then ∙ ap (left_by (Expiry 308)) first ∙ lapsed (released (situated c (always ts)) (reached ts))

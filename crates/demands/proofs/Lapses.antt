@@ -23,11 +23,11 @@ use Rattle.demands.specs.Runs.{Turn, next, run, taken_by}
 use Rattle.demands.specs.Clocks.{running_by, note_log, index_of}
 use Rattle.demands.specs.Demands.{OnlyDue, AtMostThreeDue, NoneAfterThree, AtRest, over, rings, talks, pauses, NoneRuns, NoLimitNoExpiry}
 use Rattle.demands.proofs.ByRow.{Live, Ender, t301, t302, t303, t306, t310, Row, is_row}
-use Rattle.demands.proofs.Turns.{accepts, run-last, run-append}
+use Rattle.demands.proofs.Turns.{accepts, run_last, run-append}
 use Rattle.demands.proofs.Timers.{Timed, idle, mo, mt, up, broken, restoring, wait, disconnect, row_clocked, reached}
-use Rattle.demands.proofs.Tracked.{timers-by-messages}
-use Rattle.demands.proofs.Expiries.{by-messages, late-expiry, due-expiry}
-use Rattle.demands.proofs.Ended.{idle-is-fresh}
+use Rattle.demands.proofs.Tracked.{timers_by_messages}
+use Rattle.demands.proofs.Expiries.{by_messages, late_expiry, due_expiry}
+use Rattle.demands.proofs.Ended.{idle_is_fresh}
 use Rattle.demands.proofs.Facts.{apart}
 
 -- how many expiries may still come: T308's is the last, one of the five that end a call is followed by it, T311's ends none
@@ -98,8 +98,8 @@ all_fall : (ts us : List Turn) → OnlyDue ts us → length us + rank (run (run 
 unfolding run
 all_fall ts [] h = omega arith
 all_fall ts (u ∷ us) (n, reads, runs-now, room, rest) =
-    let now = turn_falls ts u n (due-expiry ts u n reads runs-now room) in
-    let then = rw (run-last fresh_call ts u) at (all_fall (ts ++ u ∷ []) us rest) in
+    let now = turn_falls ts u n (due_expiry ts u n reads runs-now room) in
+    let then = rw (run_last fresh_call ts u) at (all_fall (ts ++ u ∷ []) us rest) in
     omega (arith, now, then)
 
 -- ---- it is 3 at most, and 0 where no timer runs
@@ -149,11 +149,11 @@ none_left disconnect h = absurd (omega (arith, h))
 pub at_most_three_due : AtMostThreeDue
 at_most_three_due ts us h = omega (arith, all_fall ts us h, most (reached ts))
 
-pub none-after-three : NoneAfterThree
+pub none_after_three : NoneAfterThree
 unfolding stopped running_by note_log
-none-after-three ts us h three =
+none_after_three ts us h three =
     let weight : rank (run fresh_call (ts ++ us)) ≡ 0 = rw (run-append fresh_call ts us) (omega (arith, all_fall ts us h, most (reached ts), three)) in
-    timers-by-messages (ts ++ us) ∙ none_left (reached (ts ++ us)) weight
+    timers_by_messages (ts ++ us) ∙ none_left (reached (ts ++ us)) weight
 
 -- ---- where none runs
 
@@ -178,7 +178,7 @@ rests disconnect f e = apart refl (flag T308 e)
 
 pub none_runs_lem : NoneRuns
 unfolding stopped running_by note_log
-none_runs_lem ts h = rests (reached ts) (idle-is-fresh ts) (sym (timers-by-messages ts) ∙ h)
+none_runs_lem ts h = rests (reached ts) (idle_is_fresh ts) (sym (timers_by_messages ts) ∙ h)
 
 -- ---- code 0
 
@@ -194,4 +194,4 @@ clockless disconnect h = refl
 
 pub no_limit_no_expiry : NoLimitNoExpiry
 unfolding index_of
-no_limit_no_expiry ts t h reads = late-expiry ts t 310 reads (by-messages ts 310 ∙ clockless (reached ts) h)
+no_limit_no_expiry ts t h reads = late_expiry ts t 310 reads (by_messages ts 310 ∙ clockless (reached ts) h)

@@ -21,9 +21,9 @@ use Rattle.callcontrol.proofs.Verbs.{verbs}
 use Rattle.demands.specs.Runs.{Turn, next, written_by, written_in}
 use Rattle.demands.specs.Demands.{limits, StartsWithLimit}
 use Rattle.demands.proofs.Facts.{apart, either}
-use Rattle.demands.proofs.Cases.{by-grant}
+use Rattle.demands.proofs.Cases.{by_grant}
 use Rattle.demands.proofs.ByRow.{Row, Cell, cell, row, no_row_lem}
-use Rattle.demands.proofs.Writes.{All, OfSlot, both, by_number_lem, writes, turn-writes}
+use Rattle.demands.proofs.Writes.{All, OfSlot, both, by_number_lem, writes, turn_writes}
 
 -- ---- drafts that start T310 with a limit alone
 
@@ -71,9 +71,9 @@ planes : {x : Draft} (p : ℕ) → Limited x → Limited (plane p x)
 unfolding plane same_plane
 planes p h = speaks (eqb p 1) (record { pdu = h.pdu; user = h.user; start = h.start })
 
-off-is : {x : Draft} → Limited x → Limited (off x)
+off_is : {x : Draft} → Limited x → Limited (off x)
 unfolding off
-off-is h = planes 4 h
+off_is h = planes 4 h
 
 grants : {x : Draft} (g : ℕ) → Limited x → Limited (grant g x)
 unfolding grant
@@ -81,7 +81,7 @@ grants g h = either Limited (eqb g 0) (planes _ (asks 0 h)) (either Limited (eqb
 
 grants_or_off : {x : Draft} (g : ℕ) → Limited x → Limited (grant_or_off g x)
 unfolding grant_or_off
-grants_or_off g h = either Limited (eqb g 1 || eqb g 2) (off-is (grants g h)) (grants g h)
+grants_or_off g h = either Limited (eqb g 1 || eqb g 2) (off_is (grants g h)) (grants g h)
 
 -- T310 started anew, or left alone
 resets : {x : Draft} (r o : ℕ) → Limited x → length x.starts ≡ 7 → Limited (restart r o x)
@@ -117,7 +117,7 @@ limited (Row.calls a d q zero) = record { pdu = refl; user = tt; start = refl }
 limited (Row.calls a d q (suc s)) = record { pdu = refl; user = tt; start = refl }
 limited (Row.is_called i a d) = record { pdu = tt; user = refl; start = refl }
 limited (Row.takes_back z) = record { pdu = tt; user = refl; start = refl }
-limited (Row.releases-sent z) = record { pdu = refl; user = tt; start = refl }
+limited (Row.releases_sent z) = record { pdu = refl; user = tt; start = refl }
 limited (Row.proceeds i) = record { pdu = tt; user = refl; start = refl }
 limited (Row.alerts i) = record { pdu = tt; user = refl; start = refl }
 limited (Row.connects i g d o s) =
@@ -130,8 +130,8 @@ limited (Row.completes i g o z) =
 limited (Row.asks_to_send k z y) = record { pdu = refl; user = tt; start = refl }
 limited (Row.stops_sending k z y) = record { pdu = refl; user = tt; start = refl }
 limited (Row.asks_no_more k z y x) = record { pdu = refl; user = tt; start = refl }
-limited {c} (Row.same-mode i r o d s z) = tells_modified d (again (slotted s (resets r o (begun c) refl)))
-limited {c} (Row.new_mode i r o d s z) = tells_modified d (off-is (slotted s (modes d (resets r o (begun c) refl))))
+limited {c} (Row.same_mode i r o d s z) = tells_modified d (again (slotted s (resets r o (begun c) refl)))
+limited {c} (Row.new_mode i r o d s z) = tells_modified d (off_is (slotted s (modes d (resets r o (begun c) refl))))
 limited {c} (Row.granted i g) = tells _ refl (grants g (begun c))
 limited (Row.ceased i) = record { pdu = tt; user = refl; start = refl }
 limited {c} (Row.interrupted i g) = tells _ refl (planes (cond (eqb g 3) 2 4) (begun c))
@@ -143,18 +143,18 @@ limited Row.resumes = record { pdu = refl; user = tt; start = refl }
 limited {c} (Row.restored i g r o) =
     tells _ refl
     (resets r o (grants g (record { pdu = tt; user = tt; start = refl }))
-    (by-grant (λ x. length x.starts ≡ 7) g (draft c ▷ stop T306 ▷ on_path Path.Up) refl refl refl refl refl))
-limited Row.breaks-again = record { pdu = tt; user = tt; start = refl }
+    (by_grant (λ x. length x.starts ≡ 7) g (draft c ▷ stop T306 ▷ on_path Path.Up) refl refl refl refl refl))
+limited Row.breaks_again = record { pdu = tt; user = tt; start = refl }
 limited {c} (Row.continues i k z) =
     tells _ refl (planes {x = draft c ▷ go State.CallActive} c.kept (record { pdu = tt; user = tt; start = refl }))
 limited (Row.continues_off i k z) = record { pdu = tt; user = refl; start = refl }
 limited Row.breaks_paused = record { pdu = tt; user = refl; start = refl }
 limited (Row.collides i z) = record { pdu = refl; user = refl; start = refl }
-limited (Row.collides-sent i z) = record { pdu = refl; user = refl; start = refl }
-limited (Row.ends-first i z) = record { pdu = tt; user = refl; start = refl }
+limited (Row.collides_sent i z) = record { pdu = refl; user = refl; start = refl }
+limited (Row.ends_first i z) = record { pdu = tt; user = refl; start = refl }
 limited (Row.confirms i z) = record { pdu = tt; user = refl; start = refl }
-limited (Row.end-sent z) = record { pdu = tt; user = tt; start = refl }
-limited (Row.end-unsent z) = record { pdu = tt; user = refl; start = refl }
+limited (Row.end_sent z) = record { pdu = tt; user = tt; start = refl }
+limited (Row.end_unsent z) = record { pdu = tt; user = refl; start = refl }
 limited (Row.unanswered n z) = record { pdu = tt; user = refl; start = refl }
 
 -- ---- what a row writes
@@ -163,23 +163,23 @@ other : (a b : Bool) → (a && b) ≡ false → a ≡ true → not b ≡ true
 other true b h e = rw h
 other false b h e = apart e refl
 
-row-writes : (x : Draft) → Limited x → All limits (messages_in x)
+row_writes : (x : Draft) → Limited x → All limits (messages_in x)
 unfolding starting limits
-row-writes x h =
+row_writes x h =
     writes limits x (by_number_lem limits _ _ (λ e. refl) (λ e. refl) (λ e. refl) (λ e. refl) (λ e. refl) (λ e. refl) (λ e. refl)) refl h.pdu
     (by_number_lem limits _ _ (λ e. refl) (λ e. refl) (λ e. refl) (λ e. refl) (λ e. refl) (other _ (eqb x.call.code 0) h.start) (λ e. refl)) (λ e. refl) h.user
 
-turn-limited : (c : Call) (t : Turn) → All limits (written_by c t)
-turn-limited c t = turn-writes limits c t (λ e h. by_cell (cell c e))
+turn_limited : (c : Call) (t : Turn) → All limits (written_by c t)
+turn_limited c t = turn_writes limits c t (λ e h. by_cell (cell c e))
   where
     by_cell : {e : Event} {x : Draft} → Cell c c.state c.path e x → All limits (messages_in x)
-    by_cell no_row_lem = row-writes _ (refused c)
-    by_cell (row r) = row-writes _ (limited r)
+    by_cell no_row_lem = row_writes _ (refused c)
+    by_cell (row r) = row_writes _ (limited r)
 
-run-limited : (c : Call) (ts : List Turn) → All limits (written_in c ts)
+run_limited : (c : Call) (ts : List Turn) → All limits (written_in c ts)
 unfolding written_in
-run-limited c [] = record { met = refl }
-run-limited c (t ∷ ts) = both limits _ _ (turn-limited c t) (run-limited (next c t) ts)
+run_limited c [] = record { met = refl }
+run_limited c (t ∷ ts) = both limits _ _ (turn_limited c t) (run_limited (next c t) ts)
 
 pub starts_with_limit : StartsWithLimit
-starts_with_limit c ts = (run-limited c ts).met
+starts_with_limit c ts = (run_limited c ts).met

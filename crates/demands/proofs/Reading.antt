@@ -38,9 +38,9 @@ finds n (k ∷ ks) = at_first (eqb n (event_row k).number) (known events n ks) (
 -- ---- 4: a body that fits is read as its numbers
 
 -- an event made of values that fit is in range
-value-fine : (k : EventKind) (vs : Values (event_row k).letters) → all_fit (event_row k).letters vs ≡ true → fine events (event_of k vs) ≡ true
+value_fine : (k : EventKind) (vs : Values (event_row k).letters) → all_fit (event_row k).letters vs ≡ true → fine events (event_of k vs) ≡ true
 unfolding fine flat_fits
-value-fine k vs fit =
+value_fine k vs fit =
     let same : all_fit (flat events (event_of k vs)).letters (flat events (event_of k vs)).values ≡ all_fit (event_row k).letters vs
     = ap (λ (kv : (k : EventKind) × Values (event_row k).letters). all_fit (event_row kv.0).letters kv.1) (event_lawful.together k vs fit) in
     rw (same, fit)
@@ -63,7 +63,7 @@ module _ (s : List ℕ) (lengthy : wrong_length s ≡ false) (current : retired_
       body true (bad_at place) p q = bad_body_lem lengthy kind current (tested p (wrong_misfits (event_row k).letters s 4 q))
       body true (Found.is vs) p q =
           let fit : (vs ≡ numbers) × (all_fit (event_row k).letters numbers ≡ true) = values_fit (event_row k).letters vs s 4 q in
-          is lengthy kind current (tested p fit.1) (value-fine k vs (rw fit.0 fit.1))
+          is lengthy kind current (tested p fit.1) (value_fine k vs (rw fit.0 fit.1))
 
   -- a size that no line of the number has
   in_size : (o : Option EventKind) → known events (number 2 s 2) event_kinds ≡ true → find events (number 2 s 2) (length s) event_kinds ≡ o → no_kind s ≡ false
@@ -100,15 +100,15 @@ reads s = long (leb 4 (length s)) (eqb (number 2 s 0) (length s)) refl refl
 -- ---- what follows
 
 -- an event that was read is in range
-pub read-fine : (s : List ℕ) (e : Event) → read events s ≡ taken e → fine events e ≡ true
-read-fine s e h = in_range_lem (rw h at (reads s))
+pub read_fine : (s : List ℕ) (e : Event) → read events s ≡ taken e → fine events e ≡ true
+read_fine s e h = in_range_lem (rw h at (reads s))
   where
     in_range_lem : Reads s (taken e) → fine events e ≡ true
     in_range_lem (is l k n b f) = f
 
 -- no reader refuses with 0
-pub refusal-number : (n place : ℕ) (s : List ℕ) → read events s ≡ refused n place → n ≡ 0 → ⊥
-refusal-number n place s h = other (rw h at (reads s))
+pub refusal_number : (n place : ℕ) (s : List ℕ) → read events s ≡ refused n place → n ≡ 0 → ⊥
+refusal_number n place s h = other (rw h at (reads s))
   where
     other : {m p : ℕ} → Reads s (refused m p) → m ≡ 0 → ⊥
     other (bad_length l) z = omega arith

@@ -44,10 +44,10 @@ one_reads : (m : Message) → fine messages m ≡ true → read messages (messag
 unfolding message_bytes
 one_reads m h = message_written_reads_back m h
 
-pub read-after-read : (ms : List Message) → every? (λ m. fine messages m) ms ≡ true → Reads (bytes_of ms) ms
+pub read_after_read : (ms : List Message) → every? (λ m. fine messages m) ms ≡ true → Reads (bytes_of ms) ms
 unfolding bytes_of
-read-after-read [] h = refl
-read-after-read (m ∷ ms) h = rw (length-is, take-append_seam s rest, drop-append_seam s rest) (reads-m, read-after-read ms (right (fine messages m) _ h))
+read_after_read [] h = refl
+read_after_read (m ∷ ms) h = rw (length-is, take-append_seam s rest, drop-append_seam s rest) (reads_m, read_after_read ms (right (fine messages m) _ h))
   where
     s : List ℕ
     s = message_bytes m
@@ -55,11 +55,11 @@ read-after-read (m ∷ ms) h = rw (length-is, take-append_seam s rest, drop-appe
     rest : List ℕ
     rest = bytes_of ms
 
-    reads-m : read messages s ≡ taken m
-    reads-m = one_reads m (left _ _ h)
+    reads_m : read messages s ≡ taken m
+    reads_m = one_reads m (left _ _ h)
 
     length-is : number 2 (s ++ rest) 0 ≡ length s
-    length-is = in_front s rest (measured messages s m reads-m).0 ∙ (measured messages s m reads-m).1
+    length-is = in_front s rest (measured messages s m reads_m).0 ∙ (measured messages s m reads_m).1
 
 -- the bytes that are stored are at the front of the buffer
 pub stored : (out buffer : List ℕ) → length out ≤ length buffer → take (length out) (sets buffer 0 out) ≡ out
@@ -70,7 +70,7 @@ counted : (c : Call) (t : Turn) → Turned c t → every? (λ m. fine messages m
 unfolding written_by
 counted c t (passed p) h = rw (p.gives, p.takes)
 counted c t (took e a) h =
-    rw (a.gives, a.takes, stored (bytes_of (messages_in (row_for c e))) t.buffer (leb-true _ _ a.room)) (read-after-read (messages_in (row_for c e)) (rw a.takes at h))
+    rw (a.gives, a.takes, stored (bytes_of (messages_in (row_for c e))) t.buffer (leb-true _ _ a.room)) (read_after_read (messages_in (row_for c e)) (rw a.takes at h))
 
-pub reads-back : ReadsBack
-reads-back c t k = counted c t (turned c t) (step_in_range c t k)
+pub reads_back : ReadsBack
+reads_back c t k = counted c t (turned c t) (step_in_range c t k)

@@ -25,7 +25,7 @@ pub record Numbers (i a d q s o m : ℕ) : Type 0 where
   pub asked : q ≤ 1
   pub sent : s ≤ 1
   pub code : o ≤ 15
-  pub some-slots : 1 ≤ m
+  pub some_slots : 1 ≤ m
   pub slots : m ≤ 4
 
 -- the planes one by one, each with whether T311 runs in it
@@ -81,16 +81,16 @@ or_left : (a b : Bool) → a ≡ true → (a || b) ≡ true
 or_left true b p = refl
 or_left false b p = cc
 
-plane-fits : {p : ℕ} {t : Bool} → Plane p t → (leb 1 p ≡ true) × (leb p 4 ≡ true) × (beq t (eqb p 1) ≡ true)
-plane-fits transmit = (refl, refl, refl)
-plane-fits receive = (refl, refl, refl)
-plane-fits duplex = (refl, refl, refl)
-plane-fits none = (refl, refl, refl)
+plane_fits : {p : ℕ} {t : Bool} → Plane p t → (leb 1 p ≡ true) × (leb p 4 ≡ true) × (beq t (eqb p 1) ≡ true)
+plane_fits transmit = (refl, refl, refl)
+plane_fits receive = (refl, refl, refl)
+plane_fits duplex = (refl, refl, refl)
+plane_fits none = (refl, refl, refl)
 
 ranged : {t u : Bool} (c : Call) → Numbers c.id c.address c.mode c.asked c.sent c.code c.slots → Plane c.plane t
     → Plane c.kept u → in_range c ≡ true
 unfolding in_range
-ranged c n p k = search (and, le-leb, (plane-fits p).0, (plane-fits p).1, (plane-fits k).0, (plane-fits k).1) depth 12
+ranged c n p k = search (and, le-leb, (plane_fits p).0, (plane_fits p).1, (plane_fits k).0, (plane_fits k).1) depth 12
 
 ruleset meeting = (and, or_left, or-true, ranged, none, le-leb)
 
@@ -99,7 +99,7 @@ unfolding sound as_fresh all_stopped timers_agree state_agrees in_range
 kept idle = record { size = refl; meets = refl }
 kept (mo n) = record { size = refl; meets = search meeting depth 8 }
 kept (mt l n) = record { size = refl; meets = search meeting depth 8 }
-kept (up l p n) = record { size = refl; meets = search (meeting, (plane-fits p).2) depth 8 }
+kept (up l p n) = record { size = refl; meets = search (meeting, (plane_fits p).2) depth 8 }
 kept (broken l n) = record { size = refl; meets = search meeting depth 8 }
 kept (restoring l n) = record { size = refl; meets = search meeting depth 8 }
 kept (wait l k n) = record { size = refl; meets = search meeting depth 8 }
@@ -154,11 +154,11 @@ or_no : (a : Bool) → (a || false) ≡ true → a ≡ true
 or_no true h = refl
 or_no false h = h
 
-is-four : (p : ℕ) → (eqb p 4 || false) ≡ true → p ≡ 4
-is-four p h = eqb-true p 4 (or_no _ h)
+is_four : (p : ℕ) → (eqb p 4 || false) ≡ true → p ≡ 4
+is_four p h = eqb-true p 4 (or_no _ h)
 
-pub is-named : (i : ℕ) → (leb 1 i || false) ≡ true → 1 ≤ i
-is-named i h = leb-true 1 i (or_no _ h)
+pub is_named : (i : ℕ) → (leb 1 i || false) ≡ true → 1 ≤ i
+is_named i h = leb-true 1 i (or_no _ h)
 
 -- IDLE leaves nothing open
 record Fresh (c : Call) : Type 0 where
@@ -192,26 +192,26 @@ module _ {i a d q s p k o m : ℕ} {t₁ t₂ t₃ t₆ t₈ t₁₀ t₁₁ : B
   still : {st : State} {w : Path} → At st w (call st w i a d q s 4 4 o m t₁ t₂ t₃ (eqb (path_number w) 2) t₈ t₁₀ false)
       → (eqb p 4 || false) ≡ true → (eqb k 4 || false) ≡ true → t₁₁ ≡ eqb p 1 → t₆ ≡ eqb (path_number w) 2
       → At st w (call st w i a d q s p k o m t₁ t₂ t₃ t₆ t₈ t₁₀ t₁₁)
-  still v h₁ h₂ h₃ h₄ = rw (h₄, h₃, is-four p h₁, is-four k h₂) v
+  still v h₁ h₂ h₃ h₄ = rw (h₄, h₃, is_four p h₁, is_four k h₂) v
 
   seen_up : (st : State) → Clauses (call st Path.Up i a d q s p k o m t₁ t₂ t₃ t₆ t₈ t₁₀ t₁₁)
       → At st Path.Up (call st Path.Up i a d q s p k o m t₁ t₂ t₃ t₆ t₈ t₁₀ t₁₁)
   seen_up State.Idle f = rw (blank i a d q s p k o m t₁ t₂ t₃ t₆ t₈ t₁₀ t₁₁ (fresh_of _ f.fresh)) idle
   seen_up State.MoCallSetup f = still (mo f.numbers) f.off_unless f.four_unless f.t311 f.t306
-  seen_up State.MtCallSetup f = still (mt (is-named i f.named_unless) f.numbers) f.off_unless f.four_unless f.t311 f.t306
+  seen_up State.MtCallSetup f = still (mt (is_named i f.named_unless) f.numbers) f.off_unless f.four_unless f.t311 f.t306
   seen_up State.CallActive f =
-      rw (f.t306, f.t311, is-four k f.four_unless) (up (is-named i f.named_unless) f.told f.numbers)
+      rw (f.t306, f.t311, is_four k f.four_unless) (up (is_named i f.named_unless) f.told f.numbers)
   seen_up State.Wait f =
-      rw (f.t306, f.t311, is-four p f.off_unless) (wait (is-named i f.named_unless) f.held f.numbers)
+      rw (f.t306, f.t311, is_four p f.off_unless) (wait (is_named i f.named_unless) f.held f.numbers)
   seen_up State.CallDisconnect f = still (disconnect f.numbers) f.off_unless f.four_unless f.t311 f.t306
 
   seen_active : (w : Path) → Clauses (call State.CallActive w i a d q s p k o m t₁ t₂ t₃ t₆ t₈ t₁₀ t₁₁)
       → At State.CallActive w (call State.CallActive w i a d q s p k o m t₁ t₂ t₃ t₆ t₈ t₁₀ t₁₁)
   seen_active Path.Up f = seen_up State.CallActive f
   seen_active Path.Broken f =
-      still (broken (is-named i f.named_unless) f.numbers) f.off_unless f.four_unless f.t311 f.t306
+      still (broken (is_named i f.named_unless) f.numbers) f.off_unless f.four_unless f.t311 f.t306
   seen_active Path.Restoring f =
-      still (restoring (is-named i f.named_unless) f.numbers) f.off_unless f.four_unless f.t311 f.t306
+      still (restoring (is_named i f.named_unless) f.numbers) f.off_unless f.four_unless f.t311 f.t306
 
   -- the path is up in every other state
   seen_other : (st : State) → eqb (state_number st) 3 ≡ false → (w : Path)
@@ -248,8 +248,8 @@ seven_of (t₁ ∷ t₂ ∷ t₃ ∷ t₆ ∷ t₈ ∷ t₁₀ ∷ t₁₁ ∷ t
 pub situated : (c : Call) → Kept c → Situated c
 situated c h = timers (seven_of c.timers h.size) (clauses c h.meets)
   where
-    with-timers : List Bool → Call
-    with-timers ts =
+    with_timers : List Bool → Call
+    with_timers ts =
         record {
           state = c.state;
           id = c.id;
@@ -265,5 +265,5 @@ situated c h = timers (seven_of c.timers h.size) (clauses c h.meets)
           timers = ts;
         }
 
-    timers : {ts : List Bool} → Seven ts → Clauses (with-timers ts) → Situated (with-timers ts)
+    timers : {ts : List Bool} → Seven ts → Clauses (with_timers ts) → Situated (with_timers ts)
     timers seven f = seen c.state c.path f

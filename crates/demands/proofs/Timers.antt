@@ -18,7 +18,7 @@ use Rattle.callcontrol.specs.Rows.{row_for}
 use Rattle.demands.specs.Runs.{Turn, next, run}
 use Rattle.demands.specs.Demands.{timers_in, Timers, SentBeforeT302}
 use Rattle.demands.proofs.Facts.{apart, either}
-use Rattle.demands.proofs.Turns.{turn-keeps, run-keeps}
+use Rattle.demands.proofs.Turns.{turn_keeps, run_keeps}
 use Rattle.demands.proofs.Situations.{call, clauses}
 use Rattle.demands.proofs.Sound.{always}
 use Rattle.demands.proofs.ByRow.{Ender, t301, t302, t303, t306, t310, Row, is_row}
@@ -75,9 +75,9 @@ planes : {x : Draft} (p : ℕ) → Talks x → Talks (plane p x)
 unfolding plane same_plane
 planes p talks = starts_or_stops (eqb p 1) talks
 
-off-is : {x : Draft} → Talks x → Talks (off x)
+off_is : {x : Draft} → Talks x → Talks (off x)
 unfolding off
-off-is v = planes 4 v
+off_is v = planes 4 v
 
 clears : {x : Draft} → Talks x → Talks (store_asked 0 x)
 unfolding store_asked
@@ -97,7 +97,7 @@ grants g v = search (one_of, planes, clears)
 
 grants_or_off : {x : Draft} (g : ℕ) → Talks x → Talks (grant_or_off g x)
 unfolding grant_or_off
-grants_or_off g v = search (one_of, off-is, grants)
+grants_or_off g v = search (one_of, off_is, grants)
 
 restarts : {x : Draft} (r o : ℕ) → Talks x → Talks (restart r o x)
 unfolding restart store_code start
@@ -144,7 +144,7 @@ row_clocked (Row.expires l n k t z) v = lapsed t (any_of v)
 row_clocked (Row.calls a d q s) idle = mo refl
 row_clocked (Row.is_called i a d) idle = mt
 row_clocked (Row.takes_back z) (mo h) = idle
-row_clocked (Row.releases-sent z) v = releasing (any_of v)
+row_clocked (Row.releases_sent z) v = releasing (any_of v)
 row_clocked (Row.proceeds i) (mo h) = mo refl
 row_clocked (Row.alerts i) (mo h) = mo refl
 row_clocked (Row.connects i g d o s) (mo h) = clocked (grants_or_off g talks)
@@ -155,8 +155,8 @@ row_clocked (Row.completes i g o z) mt = clocked (grants_or_off g talks)
 row_clocked (Row.asks_to_send k z y) up = up
 row_clocked (Row.stops_sending k z y) up = up
 row_clocked (Row.asks_no_more k z y x) up = up
-row_clocked (Row.same-mode i r o d s z) up = clocked (slots s (restarts r o talks))
-row_clocked (Row.new_mode i r o d s z) up = clocked (off-is (slots s (modes d (restarts r o talks))))
+row_clocked (Row.same_mode i r o d s z) up = clocked (slots s (restarts r o talks))
+row_clocked (Row.new_mode i r o d s z) up = clocked (off_is (slots s (modes d (restarts r o talks))))
 row_clocked (Row.granted i g) up = clocked (grants g talks)
 row_clocked (Row.ceased i) up = up
 row_clocked (Row.interrupted i g) (up {pl}) = clocked (planes (cond (eqb g 3) 2 4) (talks {pl = pl} {configure = 0}))
@@ -166,16 +166,16 @@ row_clocked (Row.talked_out n z y) up = up
 row_clocked (Row.wants k z) broken = broken
 row_clocked Row.resumes broken = restoring
 row_clocked (Row.restored i g r o) restoring = clocked (restarts r o (grants g talks))
-row_clocked Row.breaks-again restoring = broken
+row_clocked Row.breaks_again restoring = broken
 row_clocked (Row.continues i j z) (wait {pl} {k}) = clocked (planes k (talks {pl = pl} {configure = 0}))
 row_clocked (Row.continues_off i k z) wait = up
 row_clocked Row.breaks_paused wait = broken
 row_clocked (Row.collides i z) disconnect = idle
-row_clocked (Row.collides-sent i z) disconnect = idle
-row_clocked (Row.ends-first i z) disconnect = idle
+row_clocked (Row.collides_sent i z) disconnect = idle
+row_clocked (Row.ends_first i z) disconnect = idle
 row_clocked (Row.confirms i z) disconnect = idle
-row_clocked (Row.end-sent z) disconnect = disconnect
-row_clocked (Row.end-unsent z) disconnect = idle
+row_clocked (Row.end_sent z) disconnect = disconnect
+row_clocked (Row.end_unsent z) disconnect = idle
 row_clocked (Row.unanswered n z) disconnect = idle
 
 -- ---- every record of a run
@@ -183,11 +183,11 @@ row_clocked (Row.unanswered n z) disconnect = idle
 row_kept : (c : Call) (e : Event) → Clocked c → (row_for c e).taken ≡ true → Clocked (row_for c e).call
 row_kept c e v h = row_clocked (is_row c e h) v
 
-pub turn-kept : (c : Call) (t : Turn) → Clocked c → Clocked (next c t)
-turn-kept = turn-keeps Clocked row_kept
+pub turn_kept : (c : Call) (t : Turn) → Clocked c → Clocked (next c t)
+turn_kept = turn_keeps Clocked row_kept
 
 pub reached : (ts : List Turn) → Clocked (run fresh_call ts)
-reached ts = run-keeps Clocked row_kept fresh_call ts idle
+reached ts = run_keeps Clocked row_kept fresh_call ts idle
 
 -- ---- in the client's words
 
@@ -205,18 +205,18 @@ shown disconnect h = refl
 pub timers : Timers
 timers ts = shown (reached ts) (clauses (run fresh_call ts) (always ts).meets).t311
 
-sent-first : {s : State} {w : Path} {c : Call} → Timed s w c → runs c T302 ≡ true → c.sent ≡ 0 → ⊥
-sent-first idle h z = apart h refl
-sent-first (mo m) h z = apart (rw (h, z)) m
-sent-first mt h z = apart h refl
-sent-first up h z = apart h refl
-sent-first broken h z = apart h refl
-sent-first restoring h z = apart h refl
-sent-first wait h z = apart h refl
-sent-first disconnect h z = apart h refl
+sent_first : {s : State} {w : Path} {c : Call} → Timed s w c → runs c T302 ≡ true → c.sent ≡ 0 → ⊥
+sent_first idle h z = apart h refl
+sent_first (mo m) h z = apart (rw (h, z)) m
+sent_first mt h z = apart h refl
+sent_first up h z = apart h refl
+sent_first broken h z = apart h refl
+sent_first restoring h z = apart h refl
+sent_first wait h z = apart h refl
+sent_first disconnect h z = apart h refl
 
-pub sent-before-t302 : SentBeforeT302
-sent-before-t302 ts = sent-first (reached ts)
+pub sent_before_t302 : SentBeforeT302
+sent_before_t302 ts = sent_first (reached ts)
 
 -- ---- so at most two run at a time
 

@@ -25,11 +25,11 @@ use Rattle.demands.specs.Runs.{Turn, next, run, taken_by, written_by}
 use Rattle.demands.specs.Clocks.{log_in, index_of, note_message, note_messages, note_expiry, note_taken, note_log, running_by}
 use Rattle.demands.specs.Demands.{TimersByMessages, NoneInIdle}
 use Rattle.demands.proofs.Facts.{apart, left}
-use Rattle.demands.proofs.Ended.{idle-is-fresh}
+use Rattle.demands.proofs.Ended.{idle_is_fresh}
 use Rattle.demands.proofs.ByRow.{Ender, t301, t302, t303, t306, t310, Row, is_row}
-use Rattle.demands.proofs.Cases.{on_plane, by-plane, by-restart, by-grant, by-grant_or_off, limited_as, by_start310}
+use Rattle.demands.proofs.Cases.{on_plane, by_plane, by_restart, by_grant, by_grant_or_off, limited_as, by_start310}
 use Rattle.demands.proofs.Turns.{Turned, passed, took, turned}
-use Rattle.demands.proofs.Timers.{Timed, idle, mo, mt, up, broken, restoring, wait, disconnect, Clocked, turn-kept, Few, ten, ten_eleven, eleven_only, six_only, six_ten, few, Open, open_up, open_restoring}
+use Rattle.demands.proofs.Timers.{Timed, idle, mo, mt, up, broken, restoring, wait, disconnect, Clocked, turn_kept, Few, ten, ten_eleven, eleven_only, six_only, six_ten, few, Open, open_up, open_restoring}
 
 -- ---- the rows: in a reached record the flags of a draft are known, and its messages are computed
 
@@ -98,7 +98,7 @@ continuing true (wait {k}) = by (configured (not (eqb k 0)) k _ _ _ refl)
 continuing false (wait {k}) = by (configured (not (eqb k 0)) k _ _ _ refl)
 
 continues : {c : Call} {w : Path} → Timed State.Wait w c → Tracks c.timers (draft c ▷ go State.CallActive ▷ plane c.kept ▷ tell (TxIndication 7))
-continues {c} v = by-plane (λ x. Tracks c.timers (tell (TxIndication 7) x)) c.kept (go State.CallActive (draft c)) (λ b. continuing b v)
+continues {c} v = by_plane (λ x. Tracks c.timers (tell (TxIndication 7) x)) c.kept (go State.CallActive (draft c)) (λ b. continuing b v)
 
 talked : {c : Call} → Timed State.CallActive Path.Up c → Tracks (note_expiry c.timers (Expiry 311)) (draft c ▷ expired T311 ▷ say (UTxCeased c.id) ▷ off)
 unfolding flagged
@@ -117,39 +117,39 @@ unanswered : {c : Call} {w : Path} (n : ℕ) → (eqb n 308 && runs c T308) ≡ 
 unanswered n z v = rw (eqb-true n 308 (left _ _ z)) (silent v)
 
 -- rows that start T310 anew, or stop it, whether it runs or not
-same-mode : (c : Call) (r o d s : ℕ) → Open State.CallActive Path.Up c → Tracks c.timers (draft c ▷ restart r o ▷ store_slots s ▷ same_plane ▷ tell_modified d)
+same_mode : (c : Call) (r o d s : ℕ) → Open State.CallActive Path.Up c → Tracks c.timers (draft c ▷ restart r o ▷ store_slots s ▷ same_plane ▷ tell_modified d)
 unfolding flagged
-same-mode c r o d s (open_up {pl} {u = true} {t}) =
-    by-restart (λ x. Tracks c.timers (tell_modified d (same_plane (store_slots s x)))) r o (draft c) (by (configured (not (eqb pl 0)) pl _ _ _ refl))
+same_mode c r o d s (open_up {pl} {u = true} {t}) =
+    by_restart (λ x. Tracks c.timers (tell_modified d (same_plane (store_slots s x)))) r o (draft c) (by (configured (not (eqb pl 0)) pl _ _ _ refl))
     (by (configured (not (eqb pl 0)) pl _ _ _ refl)) (by (configured (not (eqb pl 0)) pl _ _ _ refl))
-same-mode c r o d s (open_up {pl} {u = false} {t}) =
-    by-restart (λ x. Tracks c.timers (tell_modified d (same_plane (store_slots s x)))) r o (draft c) (by (configured (not (eqb pl 0)) pl _ _ _ refl))
+same_mode c r o d s (open_up {pl} {u = false} {t}) =
+    by_restart (λ x. Tracks c.timers (tell_modified d (same_plane (store_slots s x)))) r o (draft c) (by (configured (not (eqb pl 0)) pl _ _ _ refl))
     (by (configured (not (eqb pl 0)) pl _ _ _ refl)) (by (configured (not (eqb pl 0)) pl _ _ _ refl))
 
 new_mode : (c : Call) (r o d s : ℕ) → Open State.CallActive Path.Up c → Tracks c.timers (draft c ▷ restart r o ▷ store_mode d ▷ store_slots s ▷ off ▷ tell_modified d)
 unfolding flagged
 new_mode c r o d s (open_up {u = true} {t = true}) =
-    by-restart (λ x. Tracks c.timers (tell_modified d (off (store_slots s (store_mode d x))))) r o (draft c) (by refl) (by refl) (by refl)
+    by_restart (λ x. Tracks c.timers (tell_modified d (off (store_slots s (store_mode d x))))) r o (draft c) (by refl) (by refl) (by refl)
 new_mode c r o d s (open_up {u = true} {t = false}) =
-    by-restart (λ x. Tracks c.timers (tell_modified d (off (store_slots s (store_mode d x))))) r o (draft c) (by refl) (by refl) (by refl)
+    by_restart (λ x. Tracks c.timers (tell_modified d (off (store_slots s (store_mode d x))))) r o (draft c) (by refl) (by refl) (by refl)
 new_mode c r o d s (open_up {u = false} {t = true}) =
-    by-restart (λ x. Tracks c.timers (tell_modified d (off (store_slots s (store_mode d x))))) r o (draft c) (by refl) (by refl) (by refl)
+    by_restart (λ x. Tracks c.timers (tell_modified d (off (store_slots s (store_mode d x))))) r o (draft c) (by refl) (by refl) (by refl)
 new_mode c r o d s (open_up {u = false} {t = false}) =
-    by-restart (λ x. Tracks c.timers (tell_modified d (off (store_slots s (store_mode d x))))) r o (draft c) (by refl) (by refl) (by refl)
+    by_restart (λ x. Tracks c.timers (tell_modified d (off (store_slots s (store_mode d x))))) r o (draft c) (by refl) (by refl) (by refl)
 
 restored : (c : Call) (g r o : ℕ) → Open State.CallActive Path.Restoring c
     → Tracks c.timers (draft c ▷ stop T306 ▷ on_path Path.Up ▷ grant g ▷ restart r o ▷ tell (TxIndication g))
 unfolding flagged
 restored c g r o (open_restoring {u = true}) =
-    by-restart (λ x. Tracks c.timers (tell (TxIndication g) x)) r o (draft c ▷ stop T306 ▷ on_path Path.Up ▷ grant g)
-    (by-grant (λ x. Tracks c.timers (tell (TxIndication g) (limited_as false (store_code (cond (eqb o 16) x.call.code o) x)))) g (draft c ▷ stop T306 ▷ on_path Path.Up) (by refl) (by refl) (by refl) (by refl) (by refl))
-    (by-grant (λ x. Tracks c.timers (tell (TxIndication g) (limited_as true (store_code (cond (eqb o 16) x.call.code o) x)))) g (draft c ▷ stop T306 ▷ on_path Path.Up) (by refl) (by refl) (by refl) (by refl) (by refl))
-    (by-grant (λ x. Tracks c.timers (tell (TxIndication g) x)) g (draft c ▷ stop T306 ▷ on_path Path.Up) (by refl) (by refl) (by refl) (by refl) (by refl))
+    by_restart (λ x. Tracks c.timers (tell (TxIndication g) x)) r o (draft c ▷ stop T306 ▷ on_path Path.Up ▷ grant g)
+    (by_grant (λ x. Tracks c.timers (tell (TxIndication g) (limited_as false (store_code (cond (eqb o 16) x.call.code o) x)))) g (draft c ▷ stop T306 ▷ on_path Path.Up) (by refl) (by refl) (by refl) (by refl) (by refl))
+    (by_grant (λ x. Tracks c.timers (tell (TxIndication g) (limited_as true (store_code (cond (eqb o 16) x.call.code o) x)))) g (draft c ▷ stop T306 ▷ on_path Path.Up) (by refl) (by refl) (by refl) (by refl) (by refl))
+    (by_grant (λ x. Tracks c.timers (tell (TxIndication g) x)) g (draft c ▷ stop T306 ▷ on_path Path.Up) (by refl) (by refl) (by refl) (by refl) (by refl))
 restored c g r o (open_restoring {u = false}) =
-    by-restart (λ x. Tracks c.timers (tell (TxIndication g) x)) r o (draft c ▷ stop T306 ▷ on_path Path.Up ▷ grant g)
-    (by-grant (λ x. Tracks c.timers (tell (TxIndication g) (limited_as false (store_code (cond (eqb o 16) x.call.code o) x)))) g (draft c ▷ stop T306 ▷ on_path Path.Up) (by refl) (by refl) (by refl) (by refl) (by refl))
-    (by-grant (λ x. Tracks c.timers (tell (TxIndication g) (limited_as true (store_code (cond (eqb o 16) x.call.code o) x)))) g (draft c ▷ stop T306 ▷ on_path Path.Up) (by refl) (by refl) (by refl) (by refl) (by refl))
-    (by-grant (λ x. Tracks c.timers (tell (TxIndication g) x)) g (draft c ▷ stop T306 ▷ on_path Path.Up) (by refl) (by refl) (by refl) (by refl) (by refl))
+    by_restart (λ x. Tracks c.timers (tell (TxIndication g) x)) r o (draft c ▷ stop T306 ▷ on_path Path.Up ▷ grant g)
+    (by_grant (λ x. Tracks c.timers (tell (TxIndication g) (limited_as false (store_code (cond (eqb o 16) x.call.code o) x)))) g (draft c ▷ stop T306 ▷ on_path Path.Up) (by refl) (by refl) (by refl) (by refl) (by refl))
+    (by_grant (λ x. Tracks c.timers (tell (TxIndication g) (limited_as true (store_code (cond (eqb o 16) x.call.code o) x)))) g (draft c ▷ stop T306 ▷ on_path Path.Up) (by refl) (by refl) (by refl) (by refl) (by refl))
+    (by_grant (λ x. Tracks c.timers (tell (TxIndication g) x)) g (draft c ▷ stop T306 ▷ on_path Path.Up) (by refl) (by refl) (by refl) (by refl) (by refl))
 
 tracks : {c : Call} {s : State} {w : Path} {e : Event} {x : Draft} → Row c s w e x → Timed s w c → Tracks (note_expiry c.timers e) x
 unfolding flagged
@@ -161,36 +161,36 @@ tracks (Row.calls a d q s) idle = by refl
 tracks (Row.is_called i a d) idle = by refl
 tracks (Row.takes_back z) (mo {t = true} h) = apart z h
 tracks (Row.takes_back z) (mo {t = false} h) = by refl
-tracks (Row.releases-sent z) v = (shares 0 (few v)).releasing
+tracks (Row.releases_sent z) v = (shares 0 (few v)).releasing
 tracks (Row.proceeds i) (mo {t} h) = elim t [ true ↦ by refl | false ↦ by refl ]
 tracks (Row.alerts i) (mo {t} h) = elim t [ true ↦ by refl | false ↦ by refl ]
 tracks {c} (Row.connects i g d o s) (mo {t = true} h) =
     by_start310 (λ x. Tracks with_302 (tell (SetupConfirm i g) (grant_or_off g x))) (draft c ▷ store_id i ▷ store_mode d ▷ store_code o ▷ store_slots s ▷ store_sent 1 ▷ go State.CallActive ▷ stop T302 ▷ stop T303)
-    (by-grant_or_off (λ x. Tracks with_302 (tell (SetupConfirm i g) x)) g (limited_as false (draft c ▷ store_id i ▷ store_mode d ▷ store_code o ▷ store_slots s ▷ store_sent 1 ▷ go State.CallActive ▷ stop T302 ▷ stop T303)) (by refl) (by refl) (by refl) (by refl) (by refl) (by refl) (by refl))
-    (by-grant_or_off (λ x. Tracks with_302 (tell (SetupConfirm i g) x)) g (limited_as true (draft c ▷ store_id i ▷ store_mode d ▷ store_code o ▷ store_slots s ▷ store_sent 1 ▷ go State.CallActive ▷ stop T302 ▷ stop T303)) (by refl) (by refl) (by refl) (by refl) (by refl) (by refl) (by refl))
+    (by_grant_or_off (λ x. Tracks with_302 (tell (SetupConfirm i g) x)) g (limited_as false (draft c ▷ store_id i ▷ store_mode d ▷ store_code o ▷ store_slots s ▷ store_sent 1 ▷ go State.CallActive ▷ stop T302 ▷ stop T303)) (by refl) (by refl) (by refl) (by refl) (by refl) (by refl) (by refl))
+    (by_grant_or_off (λ x. Tracks with_302 (tell (SetupConfirm i g) x)) g (limited_as true (draft c ▷ store_id i ▷ store_mode d ▷ store_code o ▷ store_slots s ▷ store_sent 1 ▷ go State.CallActive ▷ stop T302 ▷ stop T303)) (by refl) (by refl) (by refl) (by refl) (by refl) (by refl) (by refl))
 tracks {c} (Row.connects i g d o s) (mo {t = false} h) =
     by_start310 (λ x. Tracks with_303 (tell (SetupConfirm i g) (grant_or_off g x))) (draft c ▷ store_id i ▷ store_mode d ▷ store_code o ▷ store_slots s ▷ store_sent 1 ▷ go State.CallActive ▷ stop T302 ▷ stop T303)
-    (by-grant_or_off (λ x. Tracks with_303 (tell (SetupConfirm i g) x)) g (limited_as false (draft c ▷ store_id i ▷ store_mode d ▷ store_code o ▷ store_slots s ▷ store_sent 1 ▷ go State.CallActive ▷ stop T302 ▷ stop T303)) (by refl) (by refl) (by refl) (by refl) (by refl) (by refl) (by refl))
-    (by-grant_or_off (λ x. Tracks with_303 (tell (SetupConfirm i g) x)) g (limited_as true (draft c ▷ store_id i ▷ store_mode d ▷ store_code o ▷ store_slots s ▷ store_sent 1 ▷ go State.CallActive ▷ stop T302 ▷ stop T303)) (by refl) (by refl) (by refl) (by refl) (by refl) (by refl) (by refl))
+    (by_grant_or_off (λ x. Tracks with_303 (tell (SetupConfirm i g) x)) g (limited_as false (draft c ▷ store_id i ▷ store_mode d ▷ store_code o ▷ store_slots s ▷ store_sent 1 ▷ go State.CallActive ▷ stop T302 ▷ stop T303)) (by refl) (by refl) (by refl) (by refl) (by refl) (by refl) (by refl))
+    (by_grant_or_off (λ x. Tracks with_303 (tell (SetupConfirm i g) x)) g (limited_as true (draft c ▷ store_id i ▷ store_mode d ▷ store_code o ▷ store_slots s ▷ store_sent 1 ▷ go State.CallActive ▷ stop T302 ▷ stop T303)) (by refl) (by refl) (by refl) (by refl) (by refl) (by refl) (by refl))
 tracks (Row.sent z) (mo {t} h) = elim t [ true ↦ by refl | false ↦ by refl ]
 tracks (Row.unsent z) (mo {t = true} h) = apart z h
 tracks (Row.unsent z) (mo {t = false} h) = by refl
 tracks (Row.answers z) mt = by refl
 tracks {c} (Row.completes i g o z) (mt {t = true}) =
     by_start310 (λ x. Tracks (true ∷ false ∷ false ∷ false ∷ false ∷ false ∷ false ∷ []) (tell (Complete g) (grant_or_off g x))) (draft c ▷ store_code o ▷ go State.CallActive ▷ stop T301)
-    (by-grant_or_off (λ x. Tracks (true ∷ false ∷ false ∷ false ∷ false ∷ false ∷ false ∷ []) (tell (Complete g) x)) g (limited_as false (draft c ▷ store_code o ▷ go State.CallActive ▷ stop T301)) (by refl) (by refl) (by refl) (by refl) (by refl) (by refl) (by refl))
-    (by-grant_or_off (λ x. Tracks (true ∷ false ∷ false ∷ false ∷ false ∷ false ∷ false ∷ []) (tell (Complete g) x)) g (limited_as true (draft c ▷ store_code o ▷ go State.CallActive ▷ stop T301)) (by refl) (by refl) (by refl) (by refl) (by refl) (by refl) (by refl))
+    (by_grant_or_off (λ x. Tracks (true ∷ false ∷ false ∷ false ∷ false ∷ false ∷ false ∷ []) (tell (Complete g) x)) g (limited_as false (draft c ▷ store_code o ▷ go State.CallActive ▷ stop T301)) (by refl) (by refl) (by refl) (by refl) (by refl) (by refl) (by refl))
+    (by_grant_or_off (λ x. Tracks (true ∷ false ∷ false ∷ false ∷ false ∷ false ∷ false ∷ []) (tell (Complete g) x)) g (limited_as true (draft c ▷ store_code o ▷ go State.CallActive ▷ stop T301)) (by refl) (by refl) (by refl) (by refl) (by refl) (by refl) (by refl))
 tracks {c} (Row.completes i g o z) (mt {t = false}) =
     by_start310 (λ x. Tracks (false ∷ false ∷ false ∷ false ∷ false ∷ false ∷ false ∷ []) (tell (Complete g) (grant_or_off g x))) (draft c ▷ store_code o ▷ go State.CallActive ▷ stop T301)
-    (by-grant_or_off (λ x. Tracks (false ∷ false ∷ false ∷ false ∷ false ∷ false ∷ false ∷ []) (tell (Complete g) x)) g (limited_as false (draft c ▷ store_code o ▷ go State.CallActive ▷ stop T301)) (by refl) (by refl) (by refl) (by refl) (by refl) (by refl) (by refl))
-    (by-grant_or_off (λ x. Tracks (false ∷ false ∷ false ∷ false ∷ false ∷ false ∷ false ∷ []) (tell (Complete g) x)) g (limited_as true (draft c ▷ store_code o ▷ go State.CallActive ▷ stop T301)) (by refl) (by refl) (by refl) (by refl) (by refl) (by refl) (by refl))
+    (by_grant_or_off (λ x. Tracks (false ∷ false ∷ false ∷ false ∷ false ∷ false ∷ false ∷ []) (tell (Complete g) x)) g (limited_as false (draft c ▷ store_code o ▷ go State.CallActive ▷ stop T301)) (by refl) (by refl) (by refl) (by refl) (by refl) (by refl) (by refl))
+    (by_grant_or_off (λ x. Tracks (false ∷ false ∷ false ∷ false ∷ false ∷ false ∷ false ∷ []) (tell (Complete g) x)) g (limited_as true (draft c ▷ store_code o ▷ go State.CallActive ▷ stop T301)) (by refl) (by refl) (by refl) (by refl) (by refl) (by refl) (by refl))
 tracks (Row.asks_to_send k z y) up = by refl
 tracks (Row.stops_sending k z y) (up {t}) = elim t [ true ↦ by refl | false ↦ by refl ]
 tracks (Row.asks_no_more k z y x) up = by refl
-tracks {c} (Row.same-mode i r o d s z) up = same-mode c r o d s open_up
+tracks {c} (Row.same_mode i r o d s z) up = same_mode c r o d s open_up
 tracks {c} (Row.new_mode i r o d s z) up = new_mode c r o d s open_up
-tracks {c} (Row.granted i g) (up {t = true}) = by-grant (λ x. Tracks c.timers (tell (TxIndication g) x)) g (draft c) (by refl) (by refl) (by refl) (by refl) (by refl)
-tracks {c} (Row.granted i g) (up {t = false}) = by-grant (λ x. Tracks c.timers (tell (TxIndication g) x)) g (draft c) (by refl) (by refl) (by refl) (by refl) (by refl)
+tracks {c} (Row.granted i g) (up {t = true}) = by_grant (λ x. Tracks c.timers (tell (TxIndication g) x)) g (draft c) (by refl) (by refl) (by refl) (by refl) (by refl)
+tracks {c} (Row.granted i g) (up {t = false}) = by_grant (λ x. Tracks c.timers (tell (TxIndication g) x)) g (draft c) (by refl) (by refl) (by refl) (by refl) (by refl)
 tracks (Row.ceased i) (up {t}) = elim t [ true ↦ by refl | false ↦ by refl ]
 tracks (Row.interrupted i g) v = interrupts (eqb g 3) v
 tracks (Row.pauses i) (up {t}) = elim t [ true ↦ by refl | false ↦ by refl ]
@@ -199,16 +199,16 @@ tracks (Row.talked_out n z y) v = talked_out n z v
 tracks (Row.wants k z) broken = by refl
 tracks Row.resumes broken = by refl
 tracks {c} (Row.restored i g r o) restoring = restored c g r o open_restoring
-tracks Row.breaks-again restoring = by refl
+tracks Row.breaks_again restoring = by refl
 tracks (Row.continues i k z) v = continues v
 tracks (Row.continues_off i k z) wait = by refl
 tracks Row.breaks_paused wait = by refl
 tracks (Row.collides i z) disconnect = by refl
-tracks (Row.collides-sent i z) disconnect = by refl
-tracks (Row.ends-first i z) disconnect = by refl
+tracks (Row.collides_sent i z) disconnect = by refl
+tracks (Row.ends_first i z) disconnect = by refl
 tracks (Row.confirms i z) disconnect = by refl
-tracks (Row.end-sent z) disconnect = by refl
-tracks (Row.end-unsent z) disconnect = by refl
+tracks (Row.end_sent z) disconnect = by refl
+tracks (Row.end_unsent z) disconnect = by refl
 tracks (Row.unanswered n z) v = unanswered n z v
 
 -- ---- every run
@@ -229,12 +229,12 @@ run_tracked : (c : Call) (ts : List Turn) → Clocked c → note_log c.timers (l
 unfolding note_log log_in run
 run_tracked c [] v = refl
 run_tracked c (t ∷ ts) v =
-    ap (λ (f : List Bool). note_log f (log_in (next c t) ts)) (turn_tracked c t v (turned c t)) ∙ run_tracked (next c t) ts (turn-kept c t v)
+    ap (λ (f : List Bool). note_log f (log_in (next c t) ts)) (turn_tracked c t v (turned c t)) ∙ run_tracked (next c t) ts (turn_kept c t v)
 
-pub timers-by-messages : TimersByMessages
+pub timers_by_messages : TimersByMessages
 unfolding running_by
-timers-by-messages ts = run_tracked fresh_call ts idle
+timers_by_messages ts = run_tracked fresh_call ts idle
 
 pub none_in_idle : NoneInIdle
 unfolding running_by note_log
-none_in_idle ts z = timers-by-messages ts ∙ ap (λ (c : Call). c.timers) (idle-is-fresh ts z)
+none_in_idle ts z = timers_by_messages ts ∙ ap (λ (c : Call). c.timers) (idle_is_fresh ts z)

@@ -61,9 +61,9 @@ module _ (p : Message → Bool) where
       both _ _ stops
       (both _ _ (whenever x.cancel _ (λ e. cancel)) (both _ _ (holds x.pdu pdu) (both _ _ starts (both _ _ (whenever _ _ configure) (holds x.user user)))))
 
-  pub turn-writes : (c : Call) (t : Turn) → ((e : Event) → read events t.event ≡ taken e → All (messages_in (Rows.row_for c e))) → All (written_by c t)
+  pub turn_writes : (c : Call) (t : Turn) → ((e : Event) → read events t.event ≡ taken e → All (messages_in (Rows.row_for c e))) → All (written_by c t)
   unfolding written_by taken_by
-  turn-writes c t rows = by_answer (eqb (outcome c t).answer 0) (read events t.event) refl
+  turn_writes c t rows = by_answer (eqb (outcome c t).answer 0) (read events t.event) refl
     where
       by_answer : (b : Bool) (r : Read Event) → read events t.event ≡ r → All (messages_of c (cond b (event_in r) Option.none))
       by_answer true (taken e) h = rows e h

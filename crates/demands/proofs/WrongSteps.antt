@@ -33,11 +33,11 @@ unfolding computed
 facts = record { answer = refl; count = refl; more = refl; short = refl; zero = refl }
 
 -- a step that meets the promise gives what the step gives
-first-same : {f : Step} → Promise f → first f ≡ first step_of
-first-same h = h fresh_call setup_request (replicate 64 0)
+first_same : {f : Step} → Promise f → first f ≡ first step_of
+first_same h = h fresh_call setup_request (replicate 64 0)
 
-second-same : {f : Step} → Promise f → second f ≡ second step_of
-second-same h = h (first step_of).call [] []
+second_same : {f : Step} → Promise f → second f ≡ second step_of
+second_same h = h (first step_of).call [] []
 
 answers : {x y : Outcome} → x ≡ y → x.answer ≡ y.answer
 answers e = ap (λ (o : Outcome). o.answer) e
@@ -48,20 +48,20 @@ counts e = ap (λ (o : Outcome). o.count) e
 pub kept : PromiseMet
 kept c event buffer = refl
 
-pub refuses-all : NotRefusesAll
-refuses-all n h = let e = counts (first-same h) ∙ facts.count in omega arith
+pub refuses_all : NotRefusesAll
+refuses_all n h = let e = counts (first_same h) ∙ facts.count in omega arith
 
 pub single_answer : NotSingleAnswer
 single_answer n h =
-    let e = answers (first-same h) ∙ facts.answer in
-    let f = answers (second-same h) ∙ facts.short in
+    let e = answers (first_same h) ∙ facts.answer in
+    let f = answers (second_same h) ∙ facts.short in
     omega arith
 
 pub writes_nothing : NotWritesNothing
-writes_nothing h = let e = counts (first-same h) ∙ facts.count in omega arith
+writes_nothing h = let e = counts (first_same h) ∙ facts.count in omega arith
 
 pub first_only_lem : NotFirstOnly
-first_only_lem h = let e = sym facts.zero ∙ answers (second-same h) ∙ facts.short in omega arith
+first_only_lem h = let e = sym facts.zero ∙ answers (second_same h) ∙ facts.short in omega arith
 
 pub counts_more_lem : NotCountsMore
-counts_more_lem h = let e = sym facts.more ∙ counts (first-same h) ∙ facts.count in omega arith
+counts_more_lem h = let e = sym facts.more ∙ counts (first_same h) ∙ facts.count in omega arith

@@ -29,19 +29,19 @@ use Rattle.direct.proofs.Reading.{Reads, bad_length, no_kind_lem, bad_body_lem, 
 use Rattle.direct.proofs.Turns.{apart, by_tests, Accepted, Turned, passed, took, turned, accepts, Which, asks, awaits, gives_up_lem, connects, rejects, disconnects, retries, exhausts, which, row_of}
 use Rattle.direct.proofs.Kept.{reached}
 
-event-reads : (s : List ℕ) → Reads events s (read events s)
-event-reads = reads events event_lawful (λ e. refl) (λ n. refl)
+event_reads : (s : List ℕ) → Reads events s (read events s)
+event_reads = reads events event_lawful (λ e. refl) (λ n. refl)
 
 -- ---- the first answer
 
 module _ (c : Call) (buffer : List ℕ) where
-  event-answered : (over row room : Bool) (d : Draft) → (by_tests over row room c d buffer).answer ≡ cond over 60 (cond (not row) 61 (cond (not room) 7 0))
-  event-answered true row room d = refl
-  event-answered false false room d = refl
-  event-answered false true false d = refl
-  event-answered false true true d = refl
+  event_answered : (over row room : Bool) (d : Draft) → (by_tests over row room c d buffer).answer ≡ cond over 60 (cond (not row) 61 (cond (not room) 7 0))
+  event_answered true row room d = refl
+  event_answered false false room d = refl
+  event_answered false true false d = refl
+  event_answered false true true d = refl
 
-  step-answered : (ok : Bool) (s : List ℕ) (r : Read Event) → Reads events s r →
+  step_answered : (ok : Bool) (s : List ℕ) (r : Read Event) → Reads events s r →
       (cond ok (when_read r c buffer) (refusal 1 c buffer)).answer
       ≡ cond (not ok) 1
       (cond (wrong_length s) 2
@@ -51,16 +51,16 @@ module _ (c : Call) (buffer : List ℕ) where
       (cond (of_event (λ e. not (row_for c e).taken) r) 61
       (cond (of_event (λ e. not (leb (length (bytes_of (messages_in (row_for c e)))) (length buffer))) r) 7 0))))))
   unfolding decided carried
-  step-answered false s r v = refl
-  step-answered true s r (bad_length l) = rw l
-  step-answered true s r (no_kind_lem l k) = rw (l, k)
-  step-answered true s r (bad_body_lem l k b) = rw (l, k, b)
-  step-answered true s r (is {v = e} l k b f) =
-      rw (l, k, b) (event-answered (beyond e) (row_for c e).taken (leb (length (bytes_of (messages_in (row_for c e)))) (length buffer)) (row_for c e))
+  step_answered false s r v = refl
+  step_answered true s r (bad_length l) = rw l
+  step_answered true s r (no_kind_lem l k) = rw (l, k)
+  step_answered true s r (bad_body_lem l k b) = rw (l, k, b)
+  step_answered true s r (is {v = e} l k b f) =
+      rw (l, k, b) (event_answered (beyond e) (row_for c e).taken (leb (length (bytes_of (messages_in (row_for c e)))) (length buffer)) (row_for c e))
 
 pub answered : Answered
 unfolding step_of applies
-answered c bytes buffer = step-answered c buffer (sound c) bytes (read events bytes) (event-reads bytes)
+answered c bytes buffer = step_answered c buffer (sound c) bytes (read events bytes) (event_reads bytes)
 
 -- ---- a refusal gives the record back
 
@@ -115,7 +115,7 @@ beyond_gets_sixty c bytes buffer t l m ok reads h = rw (ok, reads, not_all (leb 
 
 never : (c : Call) (t : Turn) → sound c ≡ true → (outcome c t).answer ≡ 1 → ⊥
 unfolding outcome step_of decided carried
-never c t ok h = by (read events t.event) (event-reads t.event) (rw ok at h)
+never c t ok h = by (read events t.event) (event_reads t.event) (rw ok at h)
   where
     tests : (over row room : Bool) (d : Draft) → (by_tests over row room c d t.buffer).answer ≡ 1 → ⊥
     tests true row room d z = omega arith
@@ -134,9 +134,9 @@ never_unsound ts t = never (run fresh_call ts) t (reached ts).meets
 
 -- ---- what is taken gives the row's record and bytes
 
-pub taken-gives : Taken
+pub taken_gives : Taken
 unfolding written_by
-taken-gives c t e h =
+taken_gives c t e h =
     let a : Accepted c t e = accepts c t e h in
     (a.reads, a.leaves, rw h (ap (λ o. o.count) a.gives), rw h (ap (λ o. o.buffer) a.gives))
 
@@ -144,38 +144,38 @@ zero_took : (c : Call) (t : Turn) → Turned c t → (outcome c t).answer ≡ 0 
 zero_took c t (passed p) h = absurd (p.number (ap (λ (o : Outcome). o.answer) (sym p.gives) ∙ h))
 zero_took c t (took e a) h = (e, a.takes)
 
-pub zero-is-taken : Zero
-zero-is-taken c t = zero_took c t (turned c t)
+pub zero_is_taken : Zero
+zero_is_taken c t = zero_took c t (turned c t)
 
 -- ---- 27 bytes
 
-pub row-size : (c : Call) (e : Event) (d : Draft) → Which c e d → sizes_of (messages_in d) ≤ 27
+pub row_size : (c : Call) (e : Event) (d : Draft) → Which c e d → sizes_of (messages_in d) ≤ 27
 unfolding asked awaited given_up connected released again exhausted sizes_of message_size flat_size
-row-size c e d (asks s) = omega arith
-row-size c e d (awaits s run v) = omega arith
-row-size c e d (gives_up_lem s run) = omega arith
-row-size c e d (connects s run w) = omega arith
-row-size c e d (rejects s run w) = omega arith
-row-size c e d (disconnects s run) = omega arith
-row-size c e d (retries s run n more) = omega arith
-row-size c e d (exhausts s run n more) = omega arith
+row_size c e d (asks s) = omega arith
+row_size c e d (awaits s run v) = omega arith
+row_size c e d (gives_up_lem s run) = omega arith
+row_size c e d (connects s run w) = omega arith
+row_size c e d (rejects s run w) = omega arith
+row_size c e d (disconnects s run) = omega arith
+row_size c e d (retries s run n more) = omega arith
+row_size c e d (exhausts s run n more) = omega arith
 
 pub at_most_27 : AtMost27
 at_most_27 c t = by (turned c t)
   where
     by : Turned c t → (outcome c t).count ≤ 27
     by (passed p) = rw p.gives (omega arith)
-    by (took e a) = rw (a.gives, length-bytes_of) (row-size c e (row_for c e) (row_of a))
+    by (took e a) = rw (a.gives, length-bytes_of) (row_size c e (row_for c e) (row_of a))
 
 pub enough_27 : Enough27
 unfolding outcome step_of decided carried
-enough_27 c t room h = by (sound c) (read events t.event) (event-reads t.event) h
+enough_27 c t room h = by (sound c) (read events t.event) (event_reads t.event) h
   where
     tests : (e : Event) (over row : Bool) → (row_for c e).taken ≡ row → (by_tests over row (leb (length (bytes_of (messages_in (row_for c e)))) (length t.buffer)) c (row_for c e) t.buffer).answer ≡ 7 → ⊥
     tests e true row k z = omega arith
     tests e false false k z = omega arith
     tests e false true k z =
-        let fits : leb (length (bytes_of (messages_in (row_for c e)))) (length t.buffer) ≡ true = rw length-bytes_of (le-leb (sizes_of (messages_in (row_for c e))) (length t.buffer) (omega (arith, row-size c e (row_for c e) (which c e k)))) in
+        let fits : leb (length (bytes_of (messages_in (row_for c e)))) (length t.buffer) ≡ true = rw length-bytes_of (le-leb (sizes_of (messages_in (row_for c e))) (length t.buffer) (omega (arith, row_size c e (row_for c e) (which c e k)))) in
         let y : ◌≡◌ {A = ℕ} 0 7 = rw fits at z in omega arith
 
     by : (ok : Bool) (r : Read Event) → Reads events t.event r → (cond ok (when_read r c t.buffer) (refusal 1 c t.buffer)).answer ≡ 7 → ⊥

@@ -25,9 +25,9 @@ use Rattle.direct.specs.Rows.{asked, awaited, given_up, connected, released, aga
 use Rattle.direct.specs.Step.{beyond}
 use Rattle.direct.specs.Runs.{Turn, next, run, taken_by, written_by, written_in, is_idle, count, is_dm_setup_pres, log_in, Asked, note_asked, asked_after, asked_by, note_begun, pres_after, pres_by}
 use Rattle.direct.specs.Demands.{Kept, one_call, AtMostLimit, FromIdle, quiet, requested, OnlyInCalls, QuietUntilAsked, BegunInIdle, NoMoreThanAsked, expected, Waits, over, wait, turns_left, BackToIdle, AtMostTwice, AsOftenAsLimit}
-use Rattle.direct.proofs.Situations.{sound_in_lem, row-reporting, row-waiting}
+use Rattle.direct.proofs.Situations.{sound_in_lem, row_reporting, row_waiting}
 use Rattle.direct.proofs.Turns.{apart, Accepted, Passed, Turned, passed, took, turned, accepts, taking, Which, asks, awaits, gives_up_lem, connects, rejects, disconnects, retries, exhausts, row_of}
-use Rattle.direct.proofs.Kept.{is_not, Limits, limits, fresh_kept, reached, turn-keeps, check_limits, idle-fresh, idle-is, check_is, request_limits}
+use Rattle.direct.proofs.Kept.{is_not, Limits, limits, fresh_kept, reached, turn_keeps, check_limits, idle_fresh, idle_is, check_is, request_limits}
 use Rattle.direct.proofs.Timers.{due_303}
 
 -- ---- how many
@@ -68,8 +68,8 @@ module _ (c : Call) (t : Turn) (busy : is_idle c ≡ false) where
 
 -- ---- the turns of a call
 
-active-limits : (c : Call) → sound c ≡ true → c.state ≡ State.Active → Limits c
-active-limits c ok s = limits c (both _ _ (both _ c.dt311 (sym (sound_in_lem c State.Active s) ∙ ok)).0).0
+active_limits : (c : Call) → sound c ≡ true → c.state ≡ State.Active → Limits c
+active_limits c ok s = limits c (both _ _ (both _ c.dt311 (sym (sound_in_lem c State.Active s) ∙ ok)).0).0
 
 used_limit : (c : Call) → Kept c → is_idle c ≡ false → c.used ≤ c.limit
 used_limit c k busy = by c.state refl
@@ -77,7 +77,7 @@ used_limit c k busy = by c.state refl
     by : (s : State) → c.state ≡ s → c.used ≤ c.limit
     by State.Idle s = apart (ap (λ (x : State). eqb (state_number x) 0) s) busy
     by State.PresenceCheck s = (check_limits c k.meets s).left
-    by State.Active s = (active-limits c k.meets s).left
+    by State.Active s = (active_limits c k.meets s).left
 
 -- a turn, and what the turns behind it write
 with_rest : (c : Call) (t : Turn) (rest : List Message) → Kept c → is_idle c ≡ false → (is_idle (next c t) ≡ true → pres rest ≡ 0) → (is_idle (next c t) ≡ false → pres rest + (next c t).used ≤ (next c t).limit) → pres (written_by c t ++ rest) + c.used ≤ c.limit
@@ -90,10 +90,10 @@ with_rest c t rest k busy idle more = by (spends c t busy)
 in_call : (c : Call) (ts : List Turn) → Kept c → is_idle c ≡ false → one_call c ts ≡ true → pres (written_in c ts) + c.used ≤ c.limit
 unfolding written_in one_call count
 in_call c [] k busy one = omega (arith, used_limit c k busy)
-in_call c (t ∷ []) k busy one = with_rest c t [] k busy (λ i. refl) (λ i. omega (arith, used_limit (next c t) (turn-keeps c t k) i))
+in_call c (t ∷ []) k busy one = with_rest c t [] k busy (λ i. refl) (λ i. omega (arith, used_limit (next c t) (turn_keeps c t k) i))
 in_call c (t ∷ v ∷ ts) k busy one =
     let later : (not (is_idle (next c t)) ≡ true) × (one_call (next c t) (v ∷ ts) ≡ true) = both _ _ one in
-    with_rest c t (written_in (next c t) (v ∷ ts)) k busy (λ i. apart i (is_not _ later.0)) (λ i. in_call (next c t) (v ∷ ts) (turn-keeps c t k) i later.1)
+    with_rest c t (written_in (next c t) (v ∷ ts)) k busy (λ i. apart i (is_not _ later.0)) (λ i. in_call (next c t) (v ∷ ts) (turn_keeps c t k) i later.1)
 
 -- the turn that begins a call
 pub record Begun (c : Call) (t : Turn) (attempts : ℕ) : Type 0 where
@@ -111,7 +111,7 @@ module _ (c : Call) (t : Turn) (k : Kept c) where
       record {
         limit = ap (λ (y : Call). y.limit) n;
         used = ap (λ (y : Call). y.used) n;
-        stopped = ap (λ (y : Call). y.dt303) n ∙ ap (λ (y : Call). y.dt303) (idle-fresh c k.meets s);
+        stopped = ap (λ (y : Call). y.dt303) n ∙ ap (λ (y : Call). y.dt303) (idle_fresh c k.meets s);
         state = ap (λ (y : Call). y.state) n;
         writes = rw w;
         some = (request_limits x l m b).0;
@@ -134,10 +134,10 @@ at_most_limit ts us t x l m first one = by us one
     b = begins c t (reached ts) x l m first
 
     by : (us : List Turn) → one_call c (t ∷ us) ≡ true → pres (written_by c t ++ written_in (next c t) us) ≤ m
-    by [] one = let e = count-append (written_by c t) (written_in (next c t) []) in let z : pres (written_in (next c t) []) + (next c t).used ≤ (next c t).limit = in_call (next c t) [] (turn-keeps c t (reached ts)) (not_idle (next c t) b.state) refl in omega (arith, b.limit, b.used, b.writes)
+    by [] one = let e = count-append (written_by c t) (written_in (next c t) []) in let z : pres (written_in (next c t) []) + (next c t).used ≤ (next c t).limit = in_call (next c t) [] (turn_keeps c t (reached ts)) (not_idle (next c t) b.state) refl in omega (arith, b.limit, b.used, b.writes)
     by (u ∷ us) one =
         let e = count-append (written_by c t) (written_in (next c t) (u ∷ us)) in
-        let z = in_call (next c t) (u ∷ us) (turn-keeps c t (reached ts)) (not_idle (next c t) b.state) (both (not (is_idle (next c t))) _ one).1 in
+        let z = in_call (next c t) (u ∷ us) (turn_keeps c t (reached ts)) (not_idle (next c t) b.state) (both (not (is_idle (next c t))) _ one).1 in
         omega (arith, b.limit, b.used, b.writes)
 
 -- ---- outside calls nothing is written
@@ -150,7 +150,7 @@ only_in_calls ts t idle stays = by (turned (run fresh_call ts) t)
     c = run fresh_call ts
 
     st : c.state ≡ State.Idle
-    st = idle-is c idle
+    st = idle_is c idle
 
     other : {s : State} {A : Type 0} → c.state ≡ s → (s ≡ State.Idle → ⊥) → A
     other h apart_from = absurd (apart_from (sym h ∙ st))
@@ -174,8 +174,8 @@ only_in_calls ts t idle stays = by (turned (run fresh_call ts) t)
 
 -- ---- a call begins with a request
 
-pub quiet-until-asked : QuietUntilAsked
-quiet-until-asked ts t idle = by (turned c t)
+pub quiet_until_asked : QuietUntilAsked
+quiet_until_asked ts t idle = by (turned c t)
   where
     c : Call
     c = run fresh_call ts
@@ -217,7 +217,7 @@ module _ (c : Call) (t : Turn) (n : ℕ) (a : Asked) (k : Kept c) (h : Counted c
       by : Spent c t → Counted (next c t) (n + pres (written_by c t)) a
       by (ended i z) = record { most = omega (arith, h.most, z); used = λ j. apart i j; limit = λ j. apart i j }
       by (counted i l u) =
-          let m = used_limit (next c t) (turn-keeps c t k) i in
+          let m = used_limit (next c t) (turn_keeps c t k) i in
           record { most = omega (arith, h.used busy, h.limit busy, l, u, m); used = λ j. omega (arith, h.used busy, u); limit = λ j. l ∙ h.limit busy }
 
   row_counted : {e : Event} {d : Draft} → Which c e d → taken_by c t ≡ some e → Counted (next c t) (note_begun n (some e) + pres (written_by c t)) (note_asked a (some e))
@@ -246,7 +246,7 @@ module _ (c : Call) (t : Turn) (n : ℕ) (a : Asked) (k : Kept c) (h : Counted c
 run_counted : (c : Call) (ts : List Turn) (n : ℕ) (a : Asked) → Kept c → Counted c n a → Counted (run c ts) (pres_after n (log_in c ts)) (asked_after a (log_in c ts))
 unfolding run log_in pres_after asked_after
 run_counted c [] n a k h = h
-run_counted c (t ∷ ts) n a k h = run_counted (next c t) ts _ _ (turn-keeps c t k) (turn_counted c t n a k h)
+run_counted c (t ∷ ts) n a k h = run_counted (next c t) ts _ _ (turn_keeps c t k) (turn_counted c t n a k h)
 
 pub log_counted : (ts : List Turn) → Counted (run fresh_call ts) (pres_by (log_in fresh_call ts)) (asked_by (log_in fresh_call ts))
 unfolding pres_by asked_by
@@ -269,14 +269,14 @@ module _ (c : Call) (t : Turn) (k : Kept c) (check : c.state ≡ State.PresenceC
   reported : c.dt303 ≡ false → read events t.event ≡ taken (DmaReport 0) → 10 ≤ length t.buffer → (next c t ≡ (awaited c).call) × (written_by c t ≡ messages_in (awaited c))
   unfolding awaited sizes_of message_size flat_size
   reported off reads room =
-      let same = row-reporting c (DmaReport 0) check off in
+      let same = row_reporting c (DmaReport 0) check off in
       let a = accepts c t (DmaReport 0) (taking c t (DmaReport 0) k.meets reads refl (ap (λ (x : Draft). x.taken) same) (rw same (omega arith))) in
       (a.leaves ∙ ap (λ (x : Draft). x.call) same, a.writes ∙ ap messages_in same)
 
   -- DT303's expiry
   expires : c.dt303 ≡ true → read events t.event ≡ taken (Expiry 303) → 10 ≤ length t.buffer → (b : Bool) → ltb c.used c.limit ≡ b → (next c t ≡ (cond b (again (c.used + 1) c) (exhausted c)).call) × (written_by c t ≡ messages_in (cond b (again (c.used + 1) c) (exhausted c)))
   expires run reads room b more =
-      let same = row-waiting c (Expiry 303) check run ∙ ap (λ (x : Bool). cond x (again (c.used + 1) c) (exhausted c)) more in
+      let same = row_waiting c (Expiry 303) check run ∙ ap (λ (x : Bool). cond x (again (c.used + 1) c) (exhausted c)) more in
       let a = accepts c t (Expiry 303) (due_303 c t k.meets run reads room) in
       (a.leaves ∙ ap (λ (x : Draft). x.call) same, a.writes ∙ ap messages_in same)
 
@@ -342,7 +342,7 @@ waited : (n : ℕ) (c : Call) (us : List Turn) → Kept c → c.state ≡ State.
 waited zero c us k s w h e = some_left c e
 waited (suc n) c [] k s w h e = absurd (omega arith)
 waited (suc n) c (t ∷ us) k s (wait reads room rest) h e =
-    one_turn n c t us k s reads room (omega arith) e (λ st left. waited n (next c t) us (turn-keeps c t k) st rest (omega arith) left)
+    one_turn n c t us k s reads room (omega arith) e (λ st left. waited n (next c t) us (turn_keeps c t k) st rest (omega arith) left)
 
 pub back_to_idle : BackToIdle
 back_to_idle ts us check w h = (waited _ (run fresh_call ts) us (reached ts) (check_is (run fresh_call ts) check) w h refl).fresh
@@ -366,6 +366,6 @@ as_often_as_limit ts us t x l m first w h =
     let c = run fresh_call ts in
     let b = begins c t (reached ts) x l m first in
     let left : turns_left (next c t) ≡ 2 * m = rw (b.limit, b.used, b.stopped) (omega (arith, b.some)) in
-    let e = waited (2 * m) (next c t) us (turn-keeps c t (reached ts)) b.state w h left in
+    let e = waited (2 * m) (next c t) us (turn_keeps c t (reached ts)) b.state w h left in
     let a = count-append (written_by c t) (written_in (next c t) us) in
     (omega (arith, b.limit, b.used, b.writes, e.all), e.fresh)

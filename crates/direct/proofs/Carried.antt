@@ -82,6 +82,6 @@ module _ (c : Call) (d : Draft) (b : List ℕ) (row : d.taken ≡ true) where
   no_room h = rw (row, length-bytes_of, lt-leb _ _ h)
 
   -- they fit, and are stored
-  pub carried-out : sizes_of (messages_in d) ≤ length b → {new : List ℕ} → Laid b 0 (messages_in d) new → ◌≡◌ {A = Outcome} (record { answer = 0; place = 0; call = d.call; count = sizes_of (messages_in d); buffer = new }) (carried c d b)
+  pub carried_out : sizes_of (messages_in d) ≤ length b → {new : List ℕ} → Laid b 0 (messages_in d) new → ◌≡◌ {A = Outcome} (record { answer = 0; place = 0; call = d.call; count = sizes_of (messages_in d); buffer = new }) (carried c d b)
   unfolding carried
-  carried-out h l = rw (row, length-bytes_of, le-leb _ _ h, l.now)
+  carried_out h l = rw (row, length-bytes_of, le-leb _ _ h, l.now)

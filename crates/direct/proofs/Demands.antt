@@ -53,41 +53,41 @@ any_byte_reads t l m h k j =
     let a : t % 256 ≡ t = omega arith in
     let b : l % 256 ≡ l = omega arith in
     let c : m % 256 ≡ m = omega arith in
-    rw (a, b, c) at (round.written-reads-back events event_lawful (SetupRequest t l m) (request_fine t l m h k j))
+    rw (a, b, c) at (round.written_reads_back events event_lawful (SetupRequest t l m) (request_fine t l m h k j))
 
 pub beyond_gets_sixty : claims.BeyondGetsSixty
 beyond_gets_sixty = Answers.beyond_gets_sixty
 
 -- ---- the record
 
-pub fresh-is-sound : claims.FreshIsSound
-fresh-is-sound = Kept.fresh_kept
+pub fresh_is_sound : claims.FreshIsSound
+fresh_is_sound = Kept.fresh_kept
 
-pub step-keeps-sound : claims.StepKeepsSound
-step-keeps-sound = Kept.turn-keeps
+pub step_keeps_sound : claims.StepKeepsSound
+step_keeps_sound = Kept.turn_keeps
 
 pub run_sound : claims.Sound
-run_sound = Kept.sound-runs
+run_sound = Kept.sound_runs
 
 pub never_unsound : claims.NeverUnsound
 never_unsound = Answers.never_unsound
 
-pub idle-is-fresh : claims.IdleIsFresh
-idle-is-fresh = Kept.idle-is-fresh
+pub idle_is_fresh : claims.IdleIsFresh
+idle_is_fresh = Kept.idle_is_fresh
 
 -- ---- what is taken and written
 
-pub zero-is-taken : claims.Zero
-zero-is-taken = Answers.zero-is-taken
+pub zero_is_taken : claims.Zero
+zero_is_taken = Answers.zero_is_taken
 
-pub taken-gives : claims.Taken
-taken-gives = Answers.taken-gives
+pub taken_gives : claims.Taken
+taken_gives = Answers.taken_gives
 
 pub written_in_range : claims.WrittenInRange
 written_in_range = ReadsBack.written_in_range
 
-pub reads-back : claims.ReadsBack
-reads-back = ReadsBack.reads-back
+pub reads_back : claims.ReadsBack
+reads_back = ReadsBack.reads_back
 
 pub new_kinds : claims.NewKinds
 new_kinds = NewKinds.new_kinds
@@ -106,8 +106,8 @@ at_most_limit = Attempts.at_most_limit
 pub only_in_calls : claims.OnlyInCalls
 only_in_calls = Attempts.only_in_calls
 
-pub quiet-until-asked : claims.QuietUntilAsked
-quiet-until-asked = Attempts.quiet-until-asked
+pub quiet_until_asked : claims.QuietUntilAsked
+quiet_until_asked = Attempts.quiet_until_asked
 
 pub begun_in_idle : claims.BegunInIdle
 begun_in_idle = Attempts.begun_in_idle
@@ -126,23 +126,23 @@ as_often_as_limit = Attempts.as_often_as_limit
 
 -- ---- the timers
 
-pub timers-by-messages : claims.TimersByMessages
-timers-by-messages = Timers.timers-by-messages
+pub timers_by_messages : claims.TimersByMessages
+timers_by_messages = Timers.timers_by_messages
 
 pub none_in_idle : claims.NoneInIdle
 none_in_idle = Timers.none_in_idle
 
-pub stops-running : claims.StopsRunning
-stops-running = Timers.stops-running
+pub stops_running : claims.StopsRunning
+stops_running = Timers.stops_running
 
 pub late : claims.Late
 late = Timers.late
 
-pub due-expiry : claims.DueExpiry
-due-expiry = Timers.due-expiry
+pub due_expiry : claims.DueExpiry
+due_expiry = Timers.due_expiry
 
-pub due-answer : claims.DueAnswer
-due-answer = Timers.due-answers
+pub due_answer : claims.DueAnswer
+due_answer = Timers.due_answers
 
 pub due_report : claims.DueReport
 due_report = Timers.due_report
@@ -161,8 +161,8 @@ one_confirm = Told.one_confirm
 pub held_as_asked : claims.HeldAsAsked
 held_as_asked = Told.held_as_asked
 
-pub active-within : claims.ActiveWithin
-active-within = Told.enters_within
+pub active_within : claims.ActiveWithin
+active_within = Told.enters_within
 
 pub outside_releases : claims.OutsideReleases
 outside_releases = Told.outside_releases
@@ -175,29 +175,29 @@ one_closing = Sent.one_closing
 pub one_configure : claims.OneConfigure
 one_configure = Sent.one_configure
 
-pub expiry-writes : claims.ExpiryWrites
-expiry-writes = Sent.expiry-writes
+pub expiry_writes : claims.ExpiryWrites
+expiry_writes = Sent.expiry_writes
 
 pub within_connects : claims.WithinConnects
 within_connects = Sent.within_connects
 
-pub given-up-is-fresh : claims.GivenUpIsFresh
-given-up-is-fresh = Sent.given-up-is-fresh
+pub given_up_is_fresh : claims.GivenUpIsFresh
+given_up_is_fresh = Sent.given_up_is_fresh
 
-pub active-stays : claims.ActiveStays
-active-stays = Sent.active-stays
+pub active_stays : claims.ActiveStays
+active_stays = Sent.active_stays
 
 -- ---- records' laws of any table, for direct mode's two
 
 module _ (t : Table) (ok : laws.Lawful t) where
   round_trips : claims.RoundTrips t
   round_trips = (
-    round.written-reads-back t ok,
+    round.written_reads_back t ok,
     round.writer_reads_back t ok,
-    round.read-is-written-back t ok,
-    round.read-writes-back t ok,
-    places.place-is-wrong t ok,
-    places.wrong-has-place t ok,
+    round.read_is_written_back t ok,
+    round.read_writes_back t ok,
+    places.place_is_wrong t ok,
+    places.wrong_has_place t ok,
     places.place_only_with_four t ok,
   )
 

@@ -34,19 +34,19 @@ use Rattle.direct.proofs.step.step.Reads as step-promise
 turned : {A B : Type 0} (f : A → B) (g : B → A) → ((a : A) → g (f a) ≡ a) → Determines f
 turned f g same x r₁ r₂ e₁ e₂ = sym (same r₁) ∙ ap g (e₁ ∙ sym e₂) ∙ same r₂
 
-event-back : Read Event → EventRead
-event-back (taken e) = EventRead.Is e
-event-back (refused n place) = cond (eqb n 2) EventRead.BadLength (cond (eqb n 3) EventRead.UnknownKind (EventRead.BadBody place))
+event_back : Read Event → EventRead
+event_back (taken e) = EventRead.Is e
+event_back (refused n place) = cond (eqb n 2) EventRead.BadLength (cond (eqb n 3) EventRead.UnknownKind (EventRead.BadBody place))
 
-event-same : (r : EventRead) → event-back (as_event_read r) ≡ r
-unfolding event-back
-event-same (EventRead.Is e) = refl
-event-same EventRead.BadLength = refl
-event-same EventRead.UnknownKind = refl
-event-same (EventRead.BadBody place) = refl
+event_same : (r : EventRead) → event_back (as_event_read r) ≡ r
+unfolding event_back
+event_same (EventRead.Is e) = refl
+event_same EventRead.BadLength = refl
+event_same EventRead.UnknownKind = refl
+event_same (EventRead.BadBody place) = refl
 
-same-event : Determines as_event_read
-same-event = turned as_event_read event-back event-same
+same_event : Determines as_event_read
+same_event = turned as_event_read event_back event_same
 
 message_back : Read Message → MessageRead
 message_back (taken m) = MessageRead.Is m
@@ -73,8 +73,8 @@ written_same (Written.Count n) = refl
 written_same Written.BadField = refl
 written_same Written.NoRoom = refl
 
-same-written : (x : Wrote × List ℕ) (r₁ r₂ : Written) (b₁ b₂ : List ℕ) → ◌≡◌ {A = Wrote × List ℕ} (as_wrote r₁, b₁) x → ◌≡◌ {A = Wrote × List ℕ} (as_wrote r₂, b₂) x → (r₁ ≡ r₂) × (b₁ ≡ b₂)
-same-written x r₁ r₂ b₁ b₂ e₁ e₂ =
+same_written : (x : Wrote × List ℕ) (r₁ r₂ : Written) (b₁ b₂ : List ℕ) → ◌≡◌ {A = Wrote × List ℕ} (as_wrote r₁, b₁) x → ◌≡◌ {A = Wrote × List ℕ} (as_wrote r₂, b₂) x → (r₁ ≡ r₂) × (b₁ ≡ b₂)
+same_written x r₁ r₂ b₁ b₂ e₁ e₂ =
     let both : ◌≡◌ {A = Wrote × List ℕ} (as_wrote r₁, b₁) (as_wrote r₂, b₂) = e₁ ∙ sym e₂ in
     (sym (written_same r₁) ∙ ap (λ (p : Wrote × List ℕ). written_back p.0) both ∙ written_same r₂, ap (λ (p : Wrote × List ℕ). p.1) both)
 
@@ -86,16 +86,16 @@ answer_back n =
     (cond (eqb n 2) Answer.BadLength
     (cond (eqb n 3) Answer.UnknownKind (cond (eqb n 4) Answer.BadBody (cond (eqb n 7) Answer.NoRoom (cond (eqb n 60) Answer.BeyondLimits Answer.NoRow))))))
 
-answer-same : (a : Answer) → answer_back (answer_number a) ≡ a
+answer_same : (a : Answer) → answer_back (answer_number a) ≡ a
 unfolding answer_back
-answer-same Answer.Taken = refl
-answer-same Answer.NotSound = refl
-answer-same Answer.BadLength = refl
-answer-same Answer.UnknownKind = refl
-answer-same Answer.BadBody = refl
-answer-same Answer.NoRoom = refl
-answer-same Answer.BeyondLimits = refl
-answer-same Answer.NoRow = refl
+answer_same Answer.Taken = refl
+answer_same Answer.NotSound = refl
+answer_same Answer.BadLength = refl
+answer_same Answer.UnknownKind = refl
+answer_same Answer.BadBody = refl
+answer_same Answer.NoRoom = refl
+answer_same Answer.BeyondLimits = refl
+answer_same Answer.NoRow = refl
 
 -- what an outcome says of the code's result
 back : Outcome → Stepped
@@ -103,7 +103,7 @@ back o = record { answer = answer_back o.answer; place = o.place; count = o.coun
 
 same : (r : Stepped) (b : List ℕ) → back (as_outcome r b) ≡ r
 unfolding back
-same r b = λ i. record { answer = answer-same r.answer i; place = r.place; count = r.count; call = r.call }
+same r b = λ i. record { answer = answer_same r.answer i; place = r.place; count = r.count; call = r.call }
 
 same_step : (o : Outcome) (r₁ r₂ : Stepped) (b₁ b₂ : List ℕ) → as_outcome r₁ b₁ ≡ o → as_outcome r₂ b₂ ≡ o → (r₁ ≡ r₂) × (b₁ ≡ b₂)
 same_step o r₁ r₂ b₁ b₂ e₁ e₂ =
@@ -111,17 +111,17 @@ same_step o r₁ r₂ b₁ b₂ e₁ e₂ =
 
 -- ---- the functions
 
-pub read-event : (κs : _) (a : _) (r₁ r₂ : _) (e₁ e₂ : _) → read-event-promise.Learnt κs a r₁ e₁ → read-event-promise.Learnt κs a r₂ e₂ → r₁ ≡ r₂
-read-event κs a r₁ r₂ e₁ e₂ p q = same-event _ r₁ r₂ p q
+pub read_event : (κs : _) (a : _) (r₁ r₂ : _) (e₁ e₂ : _) → read-event-promise.Learnt κs a r₁ e₁ → read-event-promise.Learnt κs a r₂ e₂ → r₁ ≡ r₂
+read_event κs a r₁ r₂ e₁ e₂ p q = same_event _ r₁ r₂ p q
 
 pub read_message : (κs : _) (a : _) (r₁ r₂ : _) (e₁ e₂ : _) → read-message-promise.Learnt κs a r₁ e₁ → read-message-promise.Learnt κs a r₂ e₂ → r₁ ≡ r₂
 read_message κs a r₁ r₂ e₁ e₂ p q = same_message _ r₁ r₂ p q
 
-pub write-event : (κs : _) (a : _) (r₁ r₂ : _) (e₁ e₂ : _) → write-event-promise.Learnt κs a r₁ e₁ → write-event-promise.Learnt κs a r₂ e₂ → (r₁ ≡ r₂) × (e₁.1.0.now ≡ e₂.1.0.now)
-write-event κs a r₁ r₂ e₁ e₂ p q = same-written _ r₁ r₂ _ _ p q
+pub write_event : (κs : _) (a : _) (r₁ r₂ : _) (e₁ e₂ : _) → write-event-promise.Learnt κs a r₁ e₁ → write-event-promise.Learnt κs a r₂ e₂ → (r₁ ≡ r₂) × (e₁.1.0.now ≡ e₂.1.0.now)
+write_event κs a r₁ r₂ e₁ e₂ p q = same_written _ r₁ r₂ _ _ p q
 
 pub write_message : (κs : _) (a : _) (r₁ r₂ : _) (e₁ e₂ : _) → write-message-promise.Learnt κs a r₁ e₁ → write-message-promise.Learnt κs a r₂ e₂ → (r₁ ≡ r₂) × (e₁.1.0.now ≡ e₂.1.0.now)
-write_message κs a r₁ r₂ e₁ e₂ p q = same-written _ r₁ r₂ _ _ p q
+write_message κs a r₁ r₂ e₁ e₂ p q = same_written _ r₁ r₂ _ _ p q
 
 pub fresh : (κs : _) (a : _) (r₁ r₂ : _) (e₁ e₂ : _) → fresh-promise.Learnt κs a r₁ e₁ → fresh-promise.Learnt κs a r₂ e₂ → r₁ ≡ r₂
 fresh κs a r₁ r₂ e₁ e₂ p q = p ∙ sym q
@@ -129,11 +129,11 @@ fresh κs a r₁ r₂ e₁ e₂ p q = p ∙ sym q
 pub sound : (κs : _) (a : _) (r₁ r₂ : _) (e₁ e₂ : _) → sound-promise.Learnt κs a r₁ e₁ → sound-promise.Learnt κs a r₂ e₂ → r₁ ≡ r₂
 sound κs a r₁ r₂ e₁ e₂ p q = p ∙ sym q
 
-pub state-number : (κs : _) (a : _) (r₁ r₂ : _) (e₁ e₂ : _) → state-number-promise.Learnt κs a r₁ e₁ → state-number-promise.Learnt κs a r₂ e₂ → r₁ ≡ r₂
-state-number κs a r₁ r₂ e₁ e₂ p q = p ∙ sym q
+pub state_number : (κs : _) (a : _) (r₁ r₂ : _) (e₁ e₂ : _) → state-number-promise.Learnt κs a r₁ e₁ → state-number-promise.Learnt κs a r₂ e₂ → r₁ ≡ r₂
+state_number κs a r₁ r₂ e₁ e₂ p q = p ∙ sym q
 
-pub answer-number : (κs : _) (a : _) (r₁ r₂ : _) (e₁ e₂ : _) → answer-number-promise.Learnt κs a r₁ e₁ → answer-number-promise.Learnt κs a r₂ e₂ → r₁ ≡ r₂
-answer-number κs a r₁ r₂ e₁ e₂ p q = p.0 ∙ sym q.0
+pub answer_number_lem : (κs : _) (a : _) (r₁ r₂ : _) (e₁ e₂ : _) → answer-number-promise.Learnt κs a r₁ e₁ → answer-number-promise.Learnt κs a r₂ e₂ → r₁ ≡ r₂
+answer_number_lem κs a r₁ r₂ e₁ e₂ p q = p.0 ∙ sym q.0
 
 pub unread : (κs : _) (a : _) (r₁ r₂ : _) (e₁ e₂ : _) → unread-promise.Learnt κs a r₁ e₁ → unread-promise.Learnt κs a r₂ e₂ → r₁ ≡ r₂
 unread κs a r₁ r₂ e₁ e₂ p q = p ∙ sym q

@@ -22,7 +22,7 @@ use Rattle.direct.specs.Step.{beyond}
 use Rattle.direct.specs.Runs.{Turn, next, run, is_idle, is_check}
 use Rattle.direct.specs.Demands.{Kept, FreshIsSound, StepKeepsSound, Sound, NeverUnsound, IdleIsFresh}
 use Rattle.direct.proofs.Situations.{sound_in_lem}
-use Rattle.direct.proofs.Turns.{apart, event-fine, Accepted, Passed, Turned, passed, took, turned, Which, asks, awaits, gives_up_lem, connects, rejects, disconnects, retries, exhausts, row_of}
+use Rattle.direct.proofs.Turns.{apart, event_fine, Accepted, Passed, Turned, passed, took, turned, Which, asks, awaits, gives_up_lem, connects, rejects, disconnects, retries, exhausts, row_of}
 
 pub is_not : (b : Bool) → not b ≡ true → b ≡ false
 is_not true h = apart h refl
@@ -65,9 +65,9 @@ module _ (c : Call) (holds : sound c ≡ true) where
   in_idle : c.state ≡ State.Idle → as_fresh c ≡ true
   in_idle s = sym (sound_in_lem c State.Idle s) ∙ holds
 
-  pub idle-fresh : c.state ≡ State.Idle → c ≡ fresh_call
+  pub idle_fresh : c.state ≡ State.Idle → c ≡ fresh_call
   unfolding as_fresh
-  idle-fresh s =
+  idle_fresh s =
       let p₁ : ((eqb c.target 0 && eqb c.lowest 0 && eqb c.limit 0 && eqb c.used 0 && not c.dt303) ≡ true) × (not c.dt311 ≡ true) = both _ _ (in_idle s) in
       let p₂ : ((eqb c.target 0 && eqb c.lowest 0 && eqb c.limit 0 && eqb c.used 0) ≡ true) × (not c.dt303 ≡ true) = both _ _ p₁.0 in
       let p₃ : ((eqb c.target 0 && eqb c.lowest 0 && eqb c.limit 0) ≡ true) × (eqb c.used 0 ≡ true) = both _ _ p₂.0 in
@@ -82,8 +82,8 @@ module _ (c : Call) (holds : sound c ≡ true) where
       (λ i. record { state = s i; target = t i; lowest = l i; limit = m i; used = u i; dt303 = a i; dt311 = b i })
 
 -- a state that has IDLE's number is IDLE
-pub idle-is : (c : Call) → is_idle c ≡ true → c.state ≡ State.Idle
-idle-is c h = by c.state h
+pub idle_is : (c : Call) → is_idle c ≡ true → c.state ≡ State.Idle
+idle_is c h = by c.state h
   where
     by : (s : State) → eqb (state_number s) 0 ≡ true → s ≡ State.Idle
     by State.Idle h = refl
@@ -133,8 +133,8 @@ module _ (c : Call) (k : Kept c) where
   checking x s l off = sound_in_lem x State.PresenceCheck s ∙ rw (in_limits_lem x l, off)
 
   -- the limits of a call that a row keeps
-  same-limits : (x : Call) → x.limit ≡ c.limit → x.used ≡ c.used → x.lowest ≡ c.lowest → x.target ≡ c.target → c.state ≡ State.PresenceCheck → Limits x
-  same-limits x p q r t s =
+  same_limits : (x : Call) → x.limit ≡ c.limit → x.used ≡ c.used → x.lowest ≡ c.lowest → x.target ≡ c.target → c.state ≡ State.PresenceCheck → Limits x
+  same_limits x p q r t s =
       let l = check_limits c k.meets s in
       record { some = omega (arith, l.some); few = omega (arith, l.few); begun = omega (arith, l.begun); left = omega (arith, l.left); graded = omega (arith, l.graded) }
 
@@ -143,13 +143,13 @@ module _ (c : Call) (k : Kept c) where
   row_keeps e d (asks {t} {l} {m} s) f b =
       let w = request_limits t l m b in
       let r = request_bytes t l m f in
-      let fresh : c ≡ fresh_call = idle-fresh c k.meets s in
+      let fresh : c ≡ fresh_call = idle_fresh c k.meets s in
       record { target = r.0; lowest = r.1; meets = checking (asked t l m c).call refl (record { some = w.0; few = w.1.0; begun = omega arith; left = w.0; graded = w.1.1 }) (ap (λ (x : Call). x.dt311) fresh) }
   row_keeps e d (awaits s run v) f b =
-      record { target = k.target; lowest = k.lowest; meets = checking (awaited c).call s (same-limits (awaited c).call refl refl refl refl s) (check_311 c k.meets s) }
+      record { target = k.target; lowest = k.lowest; meets = checking (awaited c).call s (same_limits (awaited c).call refl refl refl refl s) (check_311 c k.meets s) }
   row_keeps e d (gives_up_lem s run) f b = fresh_kept
   row_keeps e d (connects {g} s run w) f b =
-      record { target = k.target; lowest = k.lowest; meets = sound_in_lem (connected g c).call State.Active refl ∙ rw (in_limits_lem (connected g c).call (same-limits (connected g c).call refl refl refl refl s)) }
+      record { target = k.target; lowest = k.lowest; meets = sound_in_lem (connected g c).call State.Active refl ∙ rw (in_limits_lem (connected g c).call (same_limits (connected g c).call refl refl refl refl s)) }
   row_keeps e d (rejects s run w) f b = fresh_kept
   row_keeps e d (disconnects s run) f b = fresh_kept
   row_keeps e d (retries s run n more) f b =
@@ -158,24 +158,24 @@ module _ (c : Call) (k : Kept c) where
       record { target = k.target; lowest = k.lowest; meets = checking (again (c.used + 1) c).call s (record { some = l.some; few = l.few; begun = omega arith; left = omega arith; graded = l.graded }) (check_311 c k.meets s) }
   row_keeps e d (exhausts s run n more) f b = fresh_kept
 
-pub turn-keeps : StepKeepsSound
-turn-keeps c t k = by (turned c t)
+pub turn_keeps : StepKeepsSound
+turn_keeps c t k = by (turned c t)
   where
     by : Turned c t → Kept (next c t)
     by (passed p) = rw p.leaves k
-    by (took e a) = rw a.leaves (row_keeps c k e (row_for c e) (row_of a) (event-fine t.event e a.reads) a.within)
+    by (took e a) = rw a.leaves (row_keeps c k e (row_for c e) (row_of a) (event_fine t.event e a.reads) a.within)
 
-pub run-keeps : (c : Call) (ts : List Turn) → Kept c → Kept (run c ts)
+pub run_keeps : (c : Call) (ts : List Turn) → Kept c → Kept (run c ts)
 unfolding run
-run-keeps c [] k = k
-run-keeps c (t ∷ ts) k = run-keeps (next c t) ts (turn-keeps c t k)
+run_keeps c [] k = k
+run_keeps c (t ∷ ts) k = run_keeps (next c t) ts (turn_keeps c t k)
 
 -- every record of a run
 pub reached : (ts : List Turn) → Kept (run fresh_call ts)
-reached ts = run-keeps fresh_call ts fresh_kept
+reached ts = run_keeps fresh_call ts fresh_kept
 
-pub sound-runs : Sound
-sound-runs ts = (reached ts).meets
+pub sound_runs : Sound
+sound_runs ts = (reached ts).meets
 
-pub idle-is-fresh : IdleIsFresh
-idle-is-fresh ts h = idle-fresh (run fresh_call ts) (reached ts).meets (idle-is (run fresh_call ts) h)
+pub idle_is_fresh : IdleIsFresh
+idle_is_fresh ts h = idle_fresh (run fresh_call ts) (reached ts).meets (idle_is (run fresh_call ts) h)

@@ -27,8 +27,8 @@ denied : (b : Bool) → not b ≡ true → b ≡ false
 denied true e = let z : ◌≡◌ {A = ℕ} 0 1 = cc in absurd (omega arith)
 denied false e = refl
 
-none-retired : (t u : Table) → Lawful t → every (λ k. not (listed (t.row_of k).number u.retired)) t.kinds ≡ true → NoneRetired t u
-none-retired t u lawful all k =
+none_retired : (t u : Table) → Lawful t → every (λ k. not (listed (t.row_of k).number u.retired)) t.kinds ≡ true → NoneRetired t u
+none_retired t u lawful all k =
     denied (listed (t.row_of k).number u.retired) (of_each t lawful (λ l. not (listed (t.row_of l).number u.retired)) all k)
 
 pub new_kinds : NewKinds
@@ -38,8 +38,8 @@ new_kinds = (
   none_shared messages document01.events message_lawful lawful01.event_lawful refl,
   none_shared messages document01m.messages message_lawful lawful01.message_lawful refl,
   none_shared events messages event_lawful message_lawful refl,
-  none-retired events document01.events event_lawful refl,
-  none-retired events document01m.messages event_lawful refl,
-  none-retired messages document01.events message_lawful refl,
-  none-retired messages document01m.messages message_lawful refl,
+  none_retired events document01.events event_lawful refl,
+  none_retired events document01m.messages event_lawful refl,
+  none_retired messages document01.events message_lawful refl,
+  none_retired messages document01m.messages message_lawful refl,
 )

@@ -14,7 +14,7 @@ use Rattle.records.specs.Letters.{within, is_direct_timer}
 use Rattle.records.specs.Bodies.{all_fit, flat_fits, kind_in}
 use Rattle.records.specs.Tables.{Table, Read, taken, or_refuse, read_as, read, fine}
 use Rattle.records.proofs.Laws.{both}
-use Rattle.records.proofs.RoundTrip.{written-reads-back}
+use Rattle.records.proofs.RoundTrip.{written_reads_back}
 use Rattle.direct.specs.declared.events.Event.{Event}
 use Rattle.direct.specs.declared.events.Event.TheVariants.{SetupRequest, DmConnect}
 use Rattle.direct.specs.declared.messages.Message.{Message}
@@ -28,8 +28,8 @@ use Rattle.direct.specs.Rows.{asked, awaited, given_up, connected, released, aga
 use Rattle.direct.specs.Runs.{Turn, outcome, next, run, written_by, written_in, every?}
 use Rattle.direct.specs.Demands.{Kept, Reads, WrittenInRange, ReadsBack}
 use Rattle.direct.proofs.Tables.{message_lawful}
-use Rattle.direct.proofs.Turns.{event-fine, Accepted, Passed, Turned, passed, took, turned, Which, asks, awaits, gives_up_lem, connects, rejects, disconnects, retries, exhausts, row_of}
-use Rattle.direct.proofs.Kept.{fresh_kept, reached, turn-keeps, request_bytes, within_byte}
+use Rattle.direct.proofs.Turns.{event_fine, Accepted, Passed, Turned, passed, took, turned, Which, asks, awaits, gives_up_lem, connects, rejects, disconnects, retries, exhausts, row_of}
+use Rattle.direct.proofs.Kept.{fresh_kept, reached, turn_keeps, request_bytes, within_byte}
 
 -- ---- every field in its range
 
@@ -63,26 +63,26 @@ module _ (c : Call) (k : Kept c) where
   row_fine e d (retries s run n more) f = rw (pres_fine c.target c.lowest k.target k.lowest)
   row_fine e d (exhausts s run n more) f = refl
 
-turn-fine : (c : Call) (t : Turn) → Kept c → every? (λ m. fine messages m) (written_by c t) ≡ true
+turn_fine : (c : Call) (t : Turn) → Kept c → every? (λ m. fine messages m) (written_by c t) ≡ true
 unfolding every?
-turn-fine c t k = by (turned c t)
+turn_fine c t k = by (turned c t)
   where
     by : Turned c t → every? (λ m. fine messages m) (written_by c t) ≡ true
     by (passed p) = rw p.writes
-    by (took e a) = rw a.writes (row_fine c k e (row_for c e) (row_of a) (event-fine t.event e a.reads))
+    by (took e a) = rw a.writes (row_fine c k e (row_for c e) (row_of a) (event_fine t.event e a.reads))
 
 every_append : (p : Message → Bool) (ms ns : List Message) → every? p ms ≡ true → every? p ns ≡ true → every? p (ms ++ ns) ≡ true
 unfolding every?
 every_append p [] ns h k = k
 every_append p (m ∷ ms) ns h k = let b = both (p m) _ h in rw b.0 (every_append p ms ns b.1 k)
 
-run-fine : (c : Call) (ts : List Turn) → Kept c → every? (λ m. fine messages m) (written_in c ts) ≡ true
+run_fine : (c : Call) (ts : List Turn) → Kept c → every? (λ m. fine messages m) (written_in c ts) ≡ true
 unfolding written_in every?
-run-fine c [] k = refl
-run-fine c (t ∷ ts) k = every_append _ (written_by c t) (written_in (next c t) ts) (turn-fine c t k) (run-fine (next c t) ts (turn-keeps c t k))
+run_fine c [] k = refl
+run_fine c (t ∷ ts) k = every_append _ (written_by c t) (written_in (next c t) ts) (turn_fine c t k) (run_fine (next c t) ts (turn_keeps c t k))
 
 pub written_in_range : WrittenInRange
-written_in_range ts = run-fine fresh_call ts fresh_kept
+written_in_range ts = run_fine fresh_call ts fresh_kept
 
 -- ---- record after record
 
@@ -104,12 +104,12 @@ in_front s rest h = rw (get_or-append s rest 0 0 (omega arith), get_or-append s 
 
 one_reads : (m : Message) → fine messages m ≡ true → read messages (message_bytes m) ≡ taken m
 unfolding message_bytes
-one_reads m h = written-reads-back messages message_lawful m h
+one_reads m h = written_reads_back messages message_lawful m h
 
-read-after-read : (ms : List Message) → every? (λ m. fine messages m) ms ≡ true → Reads (bytes_of ms) ms
+read_after_read : (ms : List Message) → every? (λ m. fine messages m) ms ≡ true → Reads (bytes_of ms) ms
 unfolding bytes_of every?
-read-after-read [] h = refl
-read-after-read (m ∷ ms) h = rw (length-is, take-append_seam s rest, drop-append_seam s rest) (reads-m, read-after-read ms (both (fine messages m) _ h).1)
+read_after_read [] h = refl
+read_after_read (m ∷ ms) h = rw (length-is, take-append_seam s rest, drop-append_seam s rest) (reads_m, read_after_read ms (both (fine messages m) _ h).1)
   where
     s : List ℕ
     s = message_bytes m
@@ -117,18 +117,18 @@ read-after-read (m ∷ ms) h = rw (length-is, take-append_seam s rest, drop-appe
     rest : List ℕ
     rest = bytes_of ms
 
-    reads-m : read messages s ≡ taken m
-    reads-m = one_reads m (both _ _ h).0
+    reads_m : read messages s ≡ taken m
+    reads_m = one_reads m (both _ _ h).0
 
     length-is : number 2 (s ++ rest) 0 ≡ length s
-    length-is = in_front s rest (measured messages s m reads-m).0 ∙ (measured messages s m reads-m).1
+    length-is = in_front s rest (measured messages s m reads_m).0 ∙ (measured messages s m reads_m).1
 
 -- the bytes that are stored are at the front of the buffer
 stored : (out buffer : List ℕ) → length out ≤ length buffer → take (length out) (sets buffer 0 out) ≡ out
 stored out buffer h = rw (sets-eq out buffer 0 (omega arith), take-append_seam)
 
-pub reads-back : ReadsBack
-reads-back ts t = by (turned c t)
+pub reads_back : ReadsBack
+reads_back ts t = by (turned c t)
   where
     c : Call
     c = run fresh_call ts
@@ -137,4 +137,4 @@ reads-back ts t = by (turned c t)
     by (passed p) = rw (p.gives, p.writes)
     by (took e a) =
         rw (a.gives, a.writes, stored (bytes_of (messages_in (row_for c e))) t.buffer (leb-true _ _ a.room))
-        (read-after-read (messages_in (row_for c e)) (row_fine c (reached ts) e (row_for c e) (row_of a) (event-fine t.event e a.reads)))
+        (read_after_read (messages_in (row_for c e)) (row_fine c (reached ts) e (row_for c e) (row_of a) (event_fine t.event e a.reads)))

@@ -19,7 +19,7 @@ use Rattle.direct.specs.Runs.{Turn, next, run, taken_by, written_by, written_in,
 use Rattle.direct.specs.Demands.{OneClosing, OneConfigure, ExpiryWrites, WithinConnects, GivenUpIsFresh, ActiveStays}
 use Rattle.direct.proofs.Turns.{apart, Turned, passed, took, turned, accepts, Which, asks, awaits, gives_up_lem, connects, rejects, disconnects, retries, exhausts, row_of}
 use Rattle.direct.proofs.Attempts.{log_counted}
-use Rattle.direct.proofs.Told.{one_confirm, run-held}
+use Rattle.direct.proofs.Told.{one_confirm, run_held}
 
 -- ---- what a row writes
 
@@ -116,12 +116,12 @@ one_configure ts t = by (turned c t) ∙ one_confirm ts t
 abbrev expiry_by : ℕ → ℕ → ℕ → ℕ → List Message
 expiry_by used limit target lowest = DmRelease ∷ cond (ltb used limit) (DmSetupPres target lowest) ReleaseIndication ∷ []
 
-pub expiry-writes : ExpiryWrites
-expiry-writes ts t n h =
+pub expiry_writes : ExpiryWrites
+expiry_writes ts t n h =
     let c = run fresh_call ts in
     let w = accepts c t (Expiry n) h in
     let busy = of_expiry c (row_of w) in
-    let held = run-held ts busy in
+    let held = run_held ts busy in
     w.writes
     ∙ expiring c n (row_for c (Expiry n)) (row_of w)
     ∙ ap (λ (u : ℕ). expiry_by u c.limit c.target c.lowest) (sym ((log_counted ts).used busy))
@@ -134,31 +134,31 @@ unfolding acceptable
 within_connects ts t g h within =
     let c = run fresh_call ts in
     let w = accepts c t (DmConnect g) h in
-    let held = run-held ts (of_answer c (row_of w)) in
+    let held = run_held ts (of_answer c (row_of w)) in
     let ok : (leb c.lowest g && leb g c.target) ≡ true = rw (held.lowest, held.target) within in
     let row = connecting c g (row_for c (DmConnect g)) (row_of w) ok in
     (ap (λ (x : Call). is_active x) w.leaves ∙ row.0, w.writes ∙ row.1)
 
-pub given-up-is-fresh : GivenUpIsFresh
-given-up-is-fresh ts t e h gives =
+pub given_up_is_fresh : GivenUpIsFresh
+given_up_is_fresh ts t e h gives =
     let w = accepts (run fresh_call ts) t e h in w.leaves ∙ giving_up (run fresh_call ts) e (row_for (run fresh_call ts) e) (row_of w) gives
 
 -- ---- ACTIVE
 
-active-turn : (c : Call) (t : Turn) → is_active c ≡ true → (next c t ≡ c) × (written_by c t ≡ [])
-active-turn c t active = by (turned c t)
+active_turn : (c : Call) (t : Turn) → is_active c ≡ true → (next c t ≡ c) × (written_by c t ≡ [])
+active_turn c t active = by (turned c t)
   where
     by : Turned c t → (next c t ≡ c) × (written_by c t ≡ [])
     by (passed p) = (p.leaves, p.writes)
     by (took e a) = apart active (not_active c (row_of a))
 
-active-turns : (c : Call) (us : List Turn) → is_active c ≡ true → (run c us ≡ c) × (written_in c us ≡ [])
+active_turns : (c : Call) (us : List Turn) → is_active c ≡ true → (run c us ≡ c) × (written_in c us ≡ [])
 unfolding run written_in
-active-turns c [] active = (refl, refl)
-active-turns c (t ∷ us) active =
-    let one = active-turn c t active in
-    let rest = active-turns c us active in
+active_turns c [] active = (refl, refl)
+active_turns c (t ∷ us) active =
+    let one = active_turn c t active in
+    let rest = active_turns c us active in
     (rw one.0 rest.0, rw (one.1, one.0) rest.1)
 
-pub active-stays : ActiveStays
-active-stays ts us active = active-turns (run fresh_call ts) us active
+pub active_stays : ActiveStays
+active_stays ts us active = active_turns (run fresh_call ts) us active

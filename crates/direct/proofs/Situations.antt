@@ -18,8 +18,8 @@ module _ (c : Call) where
     unfolding row_for
     row_in s h = ap (λ (x : State). in_state x c e) h
 
-    pub row-waiting : c.state ≡ State.PresenceCheck → c.dt303 ≡ true → row_for c e ≡ waiting c e
-    row-waiting s d = row_in State.PresenceCheck s ∙ ap (λ (b : Bool). cond b (waiting c e) (reporting c e)) d
+    pub row_waiting : c.state ≡ State.PresenceCheck → c.dt303 ≡ true → row_for c e ≡ waiting c e
+    row_waiting s d = row_in State.PresenceCheck s ∙ ap (λ (b : Bool). cond b (waiting c e) (reporting c e)) d
 
-    pub row-reporting : c.state ≡ State.PresenceCheck → c.dt303 ≡ false → row_for c e ≡ reporting c e
-    row-reporting s d = row_in State.PresenceCheck s ∙ ap (λ (b : Bool). cond b (waiting c e) (reporting c e)) d
+    pub row_reporting : c.state ≡ State.PresenceCheck → c.dt303 ≡ false → row_for c e ≡ reporting c e
+    row_reporting s d = row_in State.PresenceCheck s ∙ ap (λ (b : Bool). cond b (waiting c e) (reporting c e)) d

@@ -10,29 +10,29 @@ use Rattle.direct.specs.declared.messages.Message.{Message}
 use Rattle.direct.specs.Events.{events, EventKind, event_row, event_kinds, event_of, event_apart, setup_request, dma_report, dm_connect, dm_disconnect, expiry}
 use Rattle.direct.specs.Messages.{messages, MessageKind, message_row, message_kinds, message_of, message_apart, dm_setup_pres, dm_connect_ack, dm_release, stop, start, configure, setup_confirm, release_indication}
 
-event-together : (k : EventKind) (vs : Values (event_row k).letters) → all_fit (event_row k).letters vs ≡ true → ◌≡◌ {A = (k : EventKind) × Values (event_row k).letters} (event_apart (event_of k vs)) (k, vs)
-event-together setup_request vs fit = refl
-event-together dma_report vs fit = refl
-event-together dm_connect vs fit = refl
-event-together dm_disconnect vs fit = refl
-event-together expiry vs fit = refl
+event_together : (k : EventKind) (vs : Values (event_row k).letters) → all_fit (event_row k).letters vs ≡ true → ◌≡◌ {A = (k : EventKind) × Values (event_row k).letters} (event_apart (event_of k vs)) (k, vs)
+event_together setup_request vs fit = refl
+event_together dma_report vs fit = refl
+event_together dm_connect vs fit = refl
+event_together dm_disconnect vs fit = refl
+event_together expiry vs fit = refl
 
-event-again : (e : Event) → event_of (event_apart e).0 (event_apart e).1 ≡ e
-event-again (Event.SetupRequest target lowest attempts) = refl
-event-again (Event.DmaReport fared) = refl
-event-again (Event.DmConnect grade) = refl
-event-again Event.DmDisconnect = refl
-event-again (Event.Expiry timer) = refl
+event_again : (e : Event) → event_of (event_apart e).0 (event_apart e).1 ≡ e
+event_again (Event.SetupRequest target lowest attempts) = refl
+event_again (Event.DmaReport fared) = refl
+event_again (Event.DmConnect grade) = refl
+event_again Event.DmDisconnect = refl
+event_again (Event.Expiry timer) = refl
 
-event-found : (k : EventKind) → find events (event_row k).number (size_of events k) event_kinds ≡ some k
-event-found setup_request = refl
-event-found dma_report = refl
-event-found dm_connect = refl
-event-found dm_disconnect = refl
-event-found expiry = refl
+event_found : (k : EventKind) → find events (event_row k).number (size_of events k) event_kinds ≡ some k
+event_found setup_request = refl
+event_found dma_report = refl
+event_found dm_connect = refl
+event_found dm_disconnect = refl
+event_found expiry = refl
 
 pub event_lawful : Lawful events
-event_lawful = record { together = event-together; again = event-again; found = event-found; narrow = refl; current = refl }
+event_lawful = record { together = event_together; again = event_again; found = event_found; narrow = refl; current = refl }
 
 message_together : (k : MessageKind) (vs : Values (message_row k).letters) → all_fit (message_row k).letters vs ≡ true → ◌≡◌ {A = (k : MessageKind) × Values (message_row k).letters} (message_apart (message_of k vs)) (k, vs)
 message_together dm_setup_pres vs fit = refl

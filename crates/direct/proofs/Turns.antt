@@ -25,15 +25,15 @@ use Rattle.direct.specs.Step.{Outcome, refusal_at, refusal, beyond, carried, dec
 use Rattle.direct.specs.Runs.{Turn, outcome, next, run, taken_by, event_in, written_by}
 use Rattle.direct.proofs.Tables.{event_lawful}
 use Rattle.direct.proofs.Carried.{length-bytes_of}
-use Rattle.direct.proofs.Reading.{read-fine, refusal-number}
+use Rattle.direct.proofs.Reading.{read_fine, refusal_number}
 
 -- true is not false
 pub apart : {A : Type 0} {b : Bool} → b ≡ true → b ≡ false → A
 apart p q = absurd (let z : ◌≡◌ {A = ℕ} 0 1 = cc in omega arith)
 
 -- every event agrees
-pub event-fine : (s : List ℕ) (e : Event) → read events s ≡ taken e → fine events e ≡ true
-event-fine = read-fine events event_lawful (λ e. refl) (λ n. refl)
+pub event_fine : (s : List ℕ) (e : Event) → read events s ≡ taken e → fine events e ≡ true
+event_fine = read_fine events event_lawful (λ e. refl) (λ n. refl)
 
 -- what comes back where a row is carried out
 abbrev pub accepted : Draft → List ℕ → Outcome
@@ -74,41 +74,41 @@ same_both true x = refl
 same_both false x = refl
 
 module _ (c : Call) (t : Turn) where
-  next-is : {o : Outcome} → outcome c t ≡ o → next c t ≡ o.call
+  next_is : {o : Outcome} → outcome c t ≡ o → next c t ≡ o.call
   unfolding next
-  next-is g = ap (λ o. o.call) g
+  next_is g = ap (λ o. o.call) g
 
-  writes-none : taken_by c t ≡ none → written_by c t ≡ []
+  writes_none : taken_by c t ≡ none → written_by c t ≡ []
   unfolding written_by
-  writes-none k = rw k
+  writes_none k = rw k
 
-  writes-row : {e : Event} → taken_by c t ≡ some e → written_by c t ≡ messages_in (row_for c e)
+  writes_row : {e : Event} → taken_by c t ≡ some e → written_by c t ≡ messages_in (row_for c e)
   unfolding written_by
-  writes-row k = rw k
+  writes_row k = rw k
 
   passes : (n place : ℕ) → (n ≡ 0 → ⊥) → outcome c t ≡ refusal_at n place c t.buffer → taken_by c t ≡ none → Turned c t
-  passes n place z g k = passed (record { number = z; gives = g; takes = k; leaves = next-is g; writes = writes-none k })
+  passes n place z g k = passed (record { number = z; gives = g; takes = k; leaves = next_is g; writes = writes_none k })
 
-  event-turned : (e : Event) (over row room : Bool) → sound c ≡ true → read events t.event ≡ taken e → beyond e ≡ over → (row_for c e).taken ≡ row →
+  event_turned : (e : Event) (over row room : Bool) → sound c ≡ true → read events t.event ≡ taken e → beyond e ≡ over → (row_for c e).taken ≡ row →
       leb (length (bytes_of (messages_in (row_for c e)))) (length t.buffer) ≡ room →
       outcome c t ≡ by_tests over row room c (row_for c e) t.buffer → taken_by c t ≡ cond (eqb (by_tests over row room c (row_for c e) t.buffer).answer 0) (some e) none → Turned c t
-  event-turned e true row room s r o w m g k = passes 60 0 (λ e. omega arith) g k
-  event-turned e false false room s r o w m g k = passes 61 0 (λ e. omega arith) g k
-  event-turned e false true false s r o w m g k = passes 7 0 (λ e. omega arith) g k
-  event-turned e false true true s r o w m g k =
-      took e (record { holds = s; reads = r; within = o; row = w; room = m; gives = g; takes = k; leaves = next-is g; writes = writes-row k })
+  event_turned e true row room s r o w m g k = passes 60 0 (λ e. omega arith) g k
+  event_turned e false false room s r o w m g k = passes 61 0 (λ e. omega arith) g k
+  event_turned e false true false s r o w m g k = passes 7 0 (λ e. omega arith) g k
+  event_turned e false true true s r o w m g k =
+      took e (record { holds = s; reads = r; within = o; row = w; room = m; gives = g; takes = k; leaves = next_is g; writes = writes_row k })
 
-  step-turned : (ok : Bool) (r : Read Event) → sound c ≡ ok → read events t.event ≡ r → outcome c t ≡ cond ok (when_read r c t.buffer) (refusal 1 c t.buffer) →
+  step_turned : (ok : Bool) (r : Read Event) → sound c ≡ ok → read events t.event ≡ r → outcome c t ≡ cond ok (when_read r c t.buffer) (refusal 1 c t.buffer) →
       taken_by c t ≡ cond (eqb (cond ok (when_read r c t.buffer) (refusal 1 c t.buffer)).answer 0) (event_in r) none → Turned c t
   unfolding decided carried
-  step-turned false r s h g k = passes 1 0 (λ e. omega arith) g k
-  step-turned true (refused n place) s h g k = passes n place (refusal-number events event_lawful (λ e. refl) (λ n. refl) n place t.event h).0 g (k ∙ same_both (eqb n 0) none)
-  step-turned true (taken e) s h g k =
-      event-turned e (beyond e) (row_for c e).taken (leb (length (bytes_of (messages_in (row_for c e)))) (length t.buffer)) s h refl refl refl g k
+  step_turned false r s h g k = passes 1 0 (λ e. omega arith) g k
+  step_turned true (refused n place) s h g k = passes n place (refusal_number events event_lawful (λ e. refl) (λ n. refl) n place t.event h).0 g (k ∙ same_both (eqb n 0) none)
+  step_turned true (taken e) s h g k =
+      event_turned e (beyond e) (row_for c e).taken (leb (length (bytes_of (messages_in (row_for c e)))) (length t.buffer)) s h refl refl refl g k
 
 pub turned : (c : Call) (t : Turn) → Turned c t
 unfolding outcome step_of taken_by
-turned c t = step-turned c t (sound c) (read events t.event) refl refl refl refl
+turned c t = step_turned c t (sound c) (read events t.event) refl refl refl refl
 
 -- a turn that is known to take an event
 pub accepts : (c : Call) (t : Turn) (e : Event) → taken_by c t ≡ some e → Accepted c t e

@@ -15,9 +15,9 @@ pub stories : Stories
 unfolding within is_direct_timer number bytes value_at values_at kind_in body_of body_bytes flat_size flat_bytes read_body read_among read_as read message_bytes bytes_of as_fresh in_limits sound asked awaited given_up connected released again exhausted acceptable row_for carried decided step_of outcome next same_call agrees goes_so
 stories = refl
 
-pub each-shown : EachShown
+pub each_shown : EachShown
 unfolding within is_direct_timer number bytes value_at values_at kind_in body_of body_bytes flat_size flat_bytes read_body read_among read_as read message_bytes bytes_of as_fresh in_limits sound asked awaited given_up connected released again exhausted acceptable row_for carried decided step_of outcome next run taken_by written_by count log_in pres_after pres_by
-each-shown =
+each_shown =
     ((refl, refl, refl), ((refl, refl, refl), ((refl, refl, refl), ((refl, refl, refl), ((refl, refl, refl), ((refl, refl, refl), ((refl, refl, refl), ((refl, refl, refl), tt))))))))
 
 pub each_limit_reached : EachLimitReached

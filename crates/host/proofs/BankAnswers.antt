@@ -22,9 +22,9 @@ unfolding on_bank unpacked_bank
 no_bank s list call {is} tested other = rw (← tested, not-true is other)
 
 -- a bank has 39 bytes
-pub bank-length : (s : List ℕ) {is : Bool} → is ≡ is_bank s → not is ≡ false → length s ≡ 39
+pub bank_length : (s : List ℕ) {is : Bool} → is ≡ is_bank s → not is ≡ false → length s ≡ 39
 unfolding is_bank
-bank-length s {is} tested so =
+bank_length s {is} tested so =
     let all : is_bank s ≡ true = sym tested ∙ not-false is so in
     let whole : eqb (length s) 39 ≡ true = search (left, right) depth 20 in
     eqb-true _ _ whole

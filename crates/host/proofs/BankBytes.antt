@@ -16,7 +16,7 @@ unfolding bytes
 four_bytes v = refl
 
 -- eight numbers of four bytes each, and what comes after them
-pub eight-numbers : (s : List ℕ) (a b c d e f g h : ℕ) (rest : List ℕ)
+pub eight_numbers : (s : List ℕ) (a b c d e f g h : ℕ) (rest : List ℕ)
     → sets
     (sets
     (sets
@@ -26,7 +26,7 @@ pub eight-numbers : (s : List ℕ) (a b c d e f g h : ℕ) (rest : List ℕ)
     rest
     ≡ sets s 0
     (bytes 4 a ++ (bytes 4 b ++ (bytes 4 c ++ (bytes 4 d ++ (bytes 4 e ++ (bytes 4 f ++ (bytes 4 g ++ (bytes 4 h ++ rest))))))))
-eight-numbers s a b c d e f g h rest =
+eight_numbers s a b c d e f g h rest =
     let s1 = sets s 0 (bytes 4 a) in
     let s2 = sets s1 4 (bytes 4 b) in
     let s3 = sets s2 8 (bytes 4 c) in

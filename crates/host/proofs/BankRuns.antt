@@ -16,20 +16,20 @@ use Rattle.timers.specs.Due.{staying}
 use Rattle.timers.specs.Bank.{Outcome, new_bank, index_of, without, with, length_in, advanced_to}
 use Rattle.timers.specs.Time.{Call, stop, start, reading, outcome, is_taken, Kept, made, next, run}
 use Rattle.timers.proofs.Tests.{decide, All}
-use Rattle.timers.proofs.Calls.{unchanged, stop-taken, start-taken, reading-taken}
+use Rattle.timers.proofs.Calls.{unchanged, stop_taken, start_taken, reading_taken}
 use Rattle.host.specs.Bank.{flags, packed_bank, BankLeft, left_by, bank_made, on_bank}
 use Rattle.host.specs.BankLaws.{FittingBank}
 use Rattle.host.specs.BankRuns.{as_called, bank_run, BankRunIsPacked, CallIsTheBanks}
-use Rattle.host.proofs.BankPacking.{packed-bank-is-unpacked}
+use Rattle.host.proofs.BankPacking.{packed_bank_is_unpacked}
 
-packed-length : (b : Bank) → length (packed_bank b) ≡ 39
+packed_length : (b : Bank) → length (packed_bank b) ≡ 39
 unfolding packed_bank flags bytes
-packed-length b = refl
+packed_length b = refl
 
-packed-over : (s : List ℕ) (b : Bank) → length s ≡ 39 → sets s 0 (packed_bank b) ≡ packed_bank b
-packed-over s b h =
-    sets-eq (packed_bank b) s 0 (omega (arith, packed-length b))
-    ∙ rw (packed-length b, drop_of_length-le s {i = 39} (omega arith), append-nil (packed_bank b))
+packed_over : (s : List ℕ) (b : Bank) → length s ≡ 39 → sets s 0 (packed_bank b) ≡ packed_bank b
+packed_over s b h =
+    sets-eq (packed_bank b) s 0 (omega (arith, packed_length b))
+    ∙ rw (packed_length b, drop_of_length-le s {i = 39} (omega arith), append-nil (packed_bank b))
 
 -- ---- every bank of a run fits
 
@@ -47,65 +47,65 @@ new_fits time =
       sevens = (refl, refl);
     }
 
-set-fits : (l : List ℕ) (p v : ℕ) → v < 2 ^ 32 → ((i : ℕ) → get_or l i 0 < 2 ^ 32) → (i : ℕ) → get_or (set l p v) i 0 < 2 ^ 32
-set-fits [] p v h all i = all i
-set-fits (x ∷ l) zero v h all zero = h
-set-fits (x ∷ l) zero v h all (suc i) = all (suc i)
-set-fits (x ∷ l) (suc p) v h all zero = all zero
-set-fits (x ∷ l) (suc p) v h all (suc i) = set-fits l p v h (λ j. all (suc j)) i
+set_fits : (l : List ℕ) (p v : ℕ) → v < 2 ^ 32 → ((i : ℕ) → get_or l i 0 < 2 ^ 32) → (i : ℕ) → get_or (set l p v) i 0 < 2 ^ 32
+set_fits [] p v h all i = all i
+set_fits (x ∷ l) zero v h all zero = h
+set_fits (x ∷ l) zero v h all (suc i) = all (suc i)
+set_fits (x ∷ l) (suc p) v h all zero = all zero
+set_fits (x ∷ l) (suc p) v h all (suc i) = set_fits l p v h (λ j. all (suc j)) i
 
-taken-fits : (b : Bank) (c : Call) → FittingBank b → is_taken b c ≡ true → FittingBank (outcome b c).bank
+taken_fits : (b : Bank) (c : Call) → FittingBank b → is_taken b c ≡ true → FittingBank (outcome b c).bank
 unfolding advanced_to staying
-taken-fits b (stop n) f t =
-    rw (stop-taken b n t).1
+taken_fits b (stop n) f t =
+    rw (stop_taken b n t).1
     (record { last = f.last; deadlines = f.deadlines; sevens = (f.sevens.0, rw length-set f.sevens.1) })
-taken-fits b (start table n code) f t =
-    rw (start-taken b table n code t).2
+taken_fits b (start table n code) f t =
+    rw (start_taken b table n code t).2
     (record {
       last = f.last;
-      deadlines = set-fits b.deadlines (index_of n) ((b.last + length_in table n code) % 4294967296) (omega arith) f.deadlines;
+      deadlines = set_fits b.deadlines (index_of n) ((b.last + length_in table n code) % 4294967296) (omega arith) f.deadlines;
       sevens = (rw length-set f.sevens.0, rw length-set f.sevens.1);
     })
-taken-fits b (reading time list) f t =
-    rw (reading-taken b time list t).1 (record { last = omega arith; deadlines = f.deadlines; sevens = (f.sevens.0, refl) })
+taken_fits b (reading time list) f t =
+    rw (reading_taken b time list t).1 (record { last = omega arith; deadlines = f.deadlines; sevens = (f.sevens.0, refl) })
 
 call_fits : (b : Bank) (c : Call) → FittingBank b → FittingBank (outcome b c).bank
-call_fits b c f = decide (is_taken b c) (λ t. taken-fits b c f t) (λ t. rw (ap (λ (o : Outcome). o.bank) (unchanged b c t)) f)
+call_fits b c f = decide (is_taken b c) (λ t. taken_fits b c f t) (λ t. rw (ap (λ (o : Outcome). o.bank) (unchanged b c t)) f)
 
 -- ---- one call over packed bytes, and a run
 
-call-packed : (b : Bank) (c : Call) → FittingBank b → as_called (packed_bank b) c ≡ left_by (packed_bank b) (outcome b c)
+call_packed : (b : Bank) (c : Call) → FittingBank b → as_called (packed_bank b) c ≡ left_by (packed_bank b) (outcome b c)
 unfolding on_bank
-call-packed b c f = rw (packed-bank-is-unpacked b f)
+call_packed b c f = rw (packed_bank_is_unpacked b f)
 
 bytes_packed : (b : Bank) (c : Call) → FittingBank b → (as_called (packed_bank b) c).bank ≡ packed_bank (outcome b c).bank
 unfolding is_taken
 bytes_packed b c f =
-    ap (λ (l : BankLeft). l.bank) (call-packed b c f)
-    ∙ decide (is_taken b c) (λ t. rw t (packed-over (packed_bank b) (outcome b c).bank (packed-length b)))
+    ap (λ (l : BankLeft). l.bank) (call_packed b c f)
+    ∙ decide (is_taken b c) (λ t. rw t (packed_over (packed_bank b) (outcome b c).bank (packed_length b)))
     (λ t. rw t (ap (λ (o : Outcome). packed_bank o.bank) (sym (unchanged b c t))))
 
-run-packed : (s : Kept) (cs : List Call) → FittingBank s.bank → bank_run (packed_bank s.bank) cs ≡ packed_bank (run s cs).bank
+run_packed : (s : Kept) (cs : List Call) → FittingBank s.bank → bank_run (packed_bank s.bank) cs ≡ packed_bank (run s cs).bank
 unfolding bank_run run next
-run-packed s [] f = refl
-run-packed s (c ∷ cs) f = rw (bytes_packed s.bank c f) (run-packed (next s c) cs (call_fits s.bank c f))
+run_packed s [] f = refl
+run_packed s (c ∷ cs) f = rw (bytes_packed s.bank c f) (run_packed (next s c) cs (call_fits s.bank c f))
 
-fits-run : (s : Kept) (cs : List Call) → FittingBank s.bank → FittingBank (run s cs).bank
+fits_run : (s : Kept) (cs : List Call) → FittingBank s.bank → FittingBank (run s cs).bank
 unfolding run next
-fits-run s [] f = f
-fits-run s (c ∷ cs) f = fits-run (next s c) cs (call_fits s.bank c f)
+fits_run s [] f = f
+fits_run s (c ∷ cs) f = fits_run (next s c) cs (call_fits s.bank c f)
 
 begun : (s : List ℕ) (time : ℕ) → length s ≡ 39 → (bank_made s (shown time)).bank ≡ packed_bank (made time).bank
 unfolding bank_made made
-begun s time h = rw (eq-eqb (length s) 39 h) (packed-over s (new_bank (shown time)) h)
+begun s time h = rw (eq-eqb (length s) 39 h) (packed_over s (new_bank (shown time)) h)
 
-made-fits : (time : ℕ) → FittingBank (made time).bank
+made_fits : (time : ℕ) → FittingBank (made time).bank
 unfolding made
-made-fits time = new_fits time
+made_fits time = new_fits time
 
-pub bank-run-is-packed : BankRunIsPacked
-bank-run-is-packed s time cs h = rw (begun s time h) (run-packed (made time) cs (made-fits time))
+pub bank_run_is_packed : BankRunIsPacked
+bank_run_is_packed s time cs h = rw (begun s time h) (run_packed (made time) cs (made_fits time))
 
 pub call_is_the_banks : CallIsTheBanks
 call_is_the_banks s time cs c h =
-    rw (bank-run-is-packed s time cs h) (call-packed (run (made time) cs).bank c (fits-run (made time) cs (made-fits time)))
+    rw (bank_run_is_packed s time cs h) (call_packed (run (made time) cs).bank c (fits_run (made time) cs (made_fits time)))

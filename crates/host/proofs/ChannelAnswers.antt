@@ -25,19 +25,19 @@ unfolding on_rooms unpacked_rooms
 no_rooms s out call {is} tested other = rw (← tested, not-true is other)
 
 -- rooms have 20 bytes
-pub rooms-length : (s : List ℕ) {is : Bool} → is ≡ is_rooms s → not is ≡ false → length s ≡ 20
+pub rooms_length : (s : List ℕ) {is : Bool} → is ≡ is_rooms s → not is ≡ false → length s ≡ 20
 unfolding is_rooms
-rooms-length s {is} tested so =
+rooms_length s {is} tested so =
     let all : is_rooms s ≡ true = sym tested ∙ not-false is so in
     let whole : eqb (length s) 20 ≡ true = search (left, right) depth 20 in
     eqb-true _ _ whole
 
 -- what the code leaves is what the definition says of a turn
-pub left-rooms : (s out : List ℕ) (call : List Room → Outcome) (a : Answered) {is : Bool} {rooms : List Room} {after out' : List ℕ} {r : ℕ} → is ≡ is_rooms s
+pub left_rooms : (s out : List ℕ) (call : List Room → Outcome) (a : Answered) {is : Bool} {rooms : List Room} {after out' : List ℕ} {r : ℕ} → is ≡ is_rooms s
     → not is ≡ false → rooms ≡ held_rooms s → as_outcome a out' ≡ call rooms → ◌≡◌ {A = ℕ × List ℕ} (r, after) (leaving s a)
     → ◌≡◌ {A = RoomsLeft} (record { result = r; rooms = after; out = out' }) (on_rooms s out call)
 unfolding on_rooms unpacked_rooms
-left-rooms s out call a {is} {rooms} {after} {out'} {r} tested so holds called e =
+left_rooms s out call a {is} {rooms} {after} {out'} {r} tested so holds called e =
     let whole : rooms_left_by s (as_outcome a out') ≡ on_rooms s out call = rw (← tested, not-false is so, ← holds, ← called) in
     (λ i. record { result = (e i).0; rooms = (e i).1; out = out' }) ∙ whole
 
@@ -61,9 +61,9 @@ five : (r : Room) → length (packed_room r) ≡ 5
 unfolding packed_room bytes
 five r = refl
 
-pub four-rooms : (s : List ℕ) (a b c d : Room) → sets (sets (sets (sets s 0 (packed_room a)) 5 (packed_room b)) 10 (packed_room c)) 15 (packed_room d)
+pub four_rooms : (s : List ℕ) (a b c d : Room) → sets (sets (sets (sets s 0 (packed_room a)) 5 (packed_room b)) 10 (packed_room c)) 15 (packed_room d)
     ≡ sets s 0 (packed_room a ++ (packed_room b ++ (packed_room c ++ packed_room d)))
-four-rooms s a b c d =
+four_rooms s a b c d =
     let s1 = sets s 0 (packed_room a) in
     let s2 = sets s1 5 (packed_room b) in
     sets-append (packed_room c) s2 10 (packed_room d) 15 (omega (arith, five c))

@@ -18,7 +18,7 @@ use Rattle.channel.specs.Rooms.{fresh_rooms, is_free, room_fits, every?}
 use Rattle.channel.specs.Questions.{Outcome, asked_by, pdu_of}
 use Rattle.channel.specs.Runs.{Turn, lent_by, outcome, next, run, Handed, AllHanded}
 use Rattle.channel.proofs.Counting.{Sound}
-use Rattle.channel.proofs.Kept.{fresh-sound, next-sound, next_small, run_sound, run_small}
+use Rattle.channel.proofs.Kept.{fresh_sound, next_sound, next_small, run_sound, run_small}
 use Rattle.channel.proofs.Reading.{small}
 use Rattle.channel.proofs.Written.{refused}
 use Rattle.host.specs.Packing.{unpacked}
@@ -31,20 +31,20 @@ use Rattle.host.proofs.Small.{step_small}
 use Rattle.demands.proofs.Answers.{place_only_with_four}
 use Rattle.demands.proofs.Facts as facts
 
-packed-length : (rooms : List Room) → length (packed_rooms rooms) ≡ 20
+packed_length : (rooms : List Room) → length (packed_rooms rooms) ≡ 20
 unfolding packed_rooms packed_room bytes
-packed-length rooms = refl
+packed_length rooms = refl
 
-packed-over : (s : List ℕ) (rooms : List Room) → length s ≡ 20 → sets s 0 (packed_rooms rooms) ≡ packed_rooms rooms
-packed-over s rooms h =
-    sets-eq (packed_rooms rooms) s 0 (omega (arith, packed-length rooms))
-    ∙ rw (packed-length rooms, drop_of_length-le s {i = 20} (omega arith), append-nil (packed_rooms rooms))
+packed_over : (s : List ℕ) (rooms : List Room) → length s ≡ 20 → sets s 0 (packed_rooms rooms) ≡ packed_rooms rooms
+packed_over s rooms h =
+    sets-eq (packed_rooms rooms) s 0 (omega (arith, packed_length rooms))
+    ∙ rw (packed_length rooms, drop_of_length-le s {i = 20} (omega arith), append-nil (packed_rooms rooms))
 
 -- ---- all rooms of a run fit
 
-call-small : (r : Room) → room_fits r ≡ true → ltb r.call 65536 ≡ true
+call_small : (r : Room) → room_fits r ≡ true → ltb r.call 65536 ≡ true
 unfolding room_fits
-call-small r h = by (is_free r) h
+call_small r h = by (is_free r) h
   where
     by : (f : Bool) → cond f (eqb r.number 0 && eqb r.call 0) (leb r.call 16383) ≡ true → ltb r.call 65536 ≡ true
     by true h = let z = eqb-true r.call 0 (facts.right (eqb r.number 0) _ h) in lt-ltb r.call 65536 (omega (arith, z))
@@ -53,7 +53,7 @@ call-small r h = by (is_free r) h
 both_small : (rooms : List Room) → every? small rooms ≡ true → every? room_fits rooms ≡ true → every? room_small rooms ≡ true
 both_small [] h f = refl
 both_small (r ∷ rs) h f =
-    facts.and _ _ (facts.and _ _ (facts.left (small r) _ h) (call-small r (facts.left (room_fits r) _ f)))
+    facts.and _ _ (facts.and _ _ (facts.left (small r) _ h) (call_small r (facts.left (room_fits r) _ f)))
     (both_small rs (facts.right (small r) _ h) (facts.right (room_fits r) _ f))
 
 rooms_fit : (rooms : List Room) → Sound rooms → every? small rooms ≡ true → FittingRooms rooms
@@ -61,36 +61,36 @@ rooms_fit rooms s h = record { small = both_small rooms h s.fit; four = s.four }
 
 -- ---- one call over packed bytes, and a run
 
-call-packed : (rooms : List Room) (t : Turn) → FittingRooms rooms → rooms_called (packed_rooms rooms) t ≡ rooms_left_by (packed_rooms rooms) (outcome rooms t)
+call_packed : (rooms : List Room) (t : Turn) → FittingRooms rooms → rooms_called (packed_rooms rooms) t ≡ rooms_left_by (packed_rooms rooms) (outcome rooms t)
 unfolding on_rooms
-call-packed rooms t f = rw (packed_rooms_are_unpacked rooms f)
+call_packed rooms t f = rw (packed_rooms_are_unpacked rooms f)
 
 bytes_packed : (rooms : List Room) (t : Turn) → FittingRooms rooms → (rooms_called (packed_rooms rooms) t).rooms ≡ packed_rooms (next rooms t)
 unfolding next
-bytes_packed rooms t f = ap (λ (l : RoomsLeft). l.rooms) (call-packed rooms t f) ∙ by (eqb (outcome rooms t).answer 0) refl
+bytes_packed rooms t f = ap (λ (l : RoomsLeft). l.rooms) (call_packed rooms t f) ∙ by (eqb (outcome rooms t).answer 0) refl
   where
     by : (b : Bool) → eqb (outcome rooms t).answer 0 ≡ b
         → cond b (sets (packed_rooms rooms) 0 (packed_rooms (outcome rooms t).rooms)) (packed_rooms rooms) ≡ packed_rooms (outcome rooms t).rooms
-    by true e = packed-over (packed_rooms rooms) (outcome rooms t).rooms (packed-length rooms)
+    by true e = packed_over (packed_rooms rooms) (outcome rooms t).rooms (packed_length rooms)
     by false e = ap (λ (o : Outcome). packed_rooms o.rooms) (sym (refused rooms t (outcome rooms t).answer refl (eqb-false _ _ e)))
 
-run-packed : (rooms : List Room) (ts : List Turn) → Sound rooms → every? small rooms ≡ true → AllHanded ts → rooms_run (packed_rooms rooms) ts ≡ packed_rooms (run rooms ts)
+run_packed : (rooms : List Room) (ts : List Turn) → Sound rooms → every? small rooms ≡ true → AllHanded ts → rooms_run (packed_rooms rooms) ts ≡ packed_rooms (run rooms ts)
 unfolding rooms_run run
-run-packed rooms [] s h g = refl
-run-packed rooms (t ∷ ts) s h g =
-    rw (bytes_packed rooms t (rooms_fit rooms s h)) (run-packed (next rooms t) ts (next-sound rooms s t) (next_small rooms s h t g.0) g.1)
+run_packed rooms [] s h g = refl
+run_packed rooms (t ∷ ts) s h g =
+    rw (bytes_packed rooms t (rooms_fit rooms s h)) (run_packed (next rooms t) ts (next_sound rooms s t) (next_small rooms s h t g.0) g.1)
 
 begun : (s : List ℕ) → length s ≡ 20 → (rooms_freshened s).rooms ≡ packed_rooms fresh_rooms
 unfolding rooms_freshened
-begun s h = rw (eq-eqb (length s) 20 h) (packed-over s fresh_rooms h)
+begun s h = rw (eq-eqb (length s) 20 h) (packed_over s fresh_rooms h)
 
-pub rooms-run-is-packed : laws.RoomsRunIsPacked
-rooms-run-is-packed s ts h g = rw (begun s h) (run-packed fresh_rooms ts fresh-sound refl g)
+pub rooms_run_is_packed : laws.RoomsRunIsPacked
+rooms_run_is_packed s ts h g = rw (begun s h) (run_packed fresh_rooms ts fresh_sound refl g)
 
 pub call_is_the_turn : laws.CallIsTheTurn
 call_is_the_turn s ts t h g =
-    rw (rooms-run-is-packed s ts h g)
-    (call-packed (run fresh_rooms ts) t (rooms_fit (run fresh_rooms ts) (run_sound fresh_rooms ts fresh-sound) (run_small fresh_rooms ts fresh-sound g refl)))
+    rw (rooms_run_is_packed s ts h g)
+    (call_packed (run fresh_rooms ts) t (rooms_fit (run fresh_rooms ts) (run_sound fresh_rooms ts fresh_sound) (run_small fresh_rooms ts fresh_sound g refl)))
 
 -- ---- by the step's result
 

@@ -58,11 +58,11 @@ pieces_next κs a r₁ r₂ e₁ e₂ p q = p ∙ sym q
 pub bank_new : (κs : _) (a : _) (r₁ r₂ : _) (e₁ e₂ : _) → bank-new-promise.Learnt κs a r₁ e₁ → bank-new-promise.Learnt κs a r₂ e₂ → ◌≡◌ {A = BankLeft} (record { result = r₁; bank = e₁.0.now; list = [] }) (record { result = r₂; bank = e₂.0.now; list = [] })
 bank_new κs a r₁ r₂ e₁ e₂ p q = p ∙ sym q
 
-pub bank-stop : (κs : _) (a : _) (r₁ r₂ : _) (e₁ e₂ : _) → bank-stop-promise.Learnt κs a r₁ e₁ → bank-stop-promise.Learnt κs a r₂ e₂ → ◌≡◌ {A = BankLeft} (record { result = r₁; bank = e₁.0.now; list = [] }) (record { result = r₂; bank = e₂.0.now; list = [] })
-bank-stop κs a r₁ r₂ e₁ e₂ p q = p ∙ sym q
+pub bank_stop : (κs : _) (a : _) (r₁ r₂ : _) (e₁ e₂ : _) → bank-stop-promise.Learnt κs a r₁ e₁ → bank-stop-promise.Learnt κs a r₂ e₂ → ◌≡◌ {A = BankLeft} (record { result = r₁; bank = e₁.0.now; list = [] }) (record { result = r₂; bank = e₂.0.now; list = [] })
+bank_stop κs a r₁ r₂ e₁ e₂ p q = p ∙ sym q
 
-pub bank-start : (κs : _) (a : _) (r₁ r₂ : _) (e₁ e₂ : _) → bank-start-promise.Learnt κs a r₁ e₁ → bank-start-promise.Learnt κs a r₂ e₂ → ◌≡◌ {A = BankLeft} (record { result = r₁; bank = e₁.0.now; list = [] }) (record { result = r₂; bank = e₂.0.now; list = [] })
-bank-start κs a r₁ r₂ e₁ e₂ p q = p ∙ sym q
+pub bank_start : (κs : _) (a : _) (r₁ r₂ : _) (e₁ e₂ : _) → bank-start-promise.Learnt κs a r₁ e₁ → bank-start-promise.Learnt κs a r₂ e₂ → ◌≡◌ {A = BankLeft} (record { result = r₁; bank = e₁.0.now; list = [] }) (record { result = r₂; bank = e₂.0.now; list = [] })
+bank_start κs a r₁ r₂ e₁ e₂ p q = p ∙ sym q
 
 pub bank_advance : (κs : _) (a : _) (r₁ r₂ : _) (e₁ e₂ : _) → bank-advance-promise.Learnt κs a r₁ e₁ → bank-advance-promise.Learnt κs a r₂ e₂ → ◌≡◌ {A = BankLeft} (record { result = r₁; bank = e₁.0.now; list = e₁.1.1.0.now }) (record { result = r₂; bank = e₂.0.now; list = e₂.1.1.0.now })
 bank_advance κs a r₁ r₂ e₁ e₂ p q = p ∙ sym q
@@ -96,8 +96,8 @@ flag κs a r₁ r₂ e₁ e₂ p q = p ∙ sym q
 pub word_at : (κs : _) (a : _) (r₁ r₂ : _) (e₁ e₂ : _) → word-at-promise.Learnt κs a r₁ e₁ → word-at-promise.Learnt κs a r₂ e₂ → r₁ ≡ r₂
 word_at κs a r₁ r₂ e₁ e₂ p q = p ∙ sym q
 
-pub long-at : (κs : _) (a : _) (r₁ r₂ : _) (e₁ e₂ : _) → long-at-promise.Learnt κs a r₁ e₁ → long-at-promise.Learnt κs a r₂ e₂ → r₁ ≡ r₂
-long-at κs a r₁ r₂ e₁ e₂ p q = p ∙ sym q
+pub long_at : (κs : _) (a : _) (r₁ r₂ : _) (e₁ e₂ : _) → long-at-promise.Learnt κs a r₁ e₁ → long-at-promise.Learnt κs a r₂ e₂ → r₁ ≡ r₂
+long_at κs a r₁ r₂ e₁ e₂ p q = p ∙ sym q
 
 pub pack : (κs : _) (a : _) (r₁ r₂ : _) (e₁ e₂ : _) → pack-promise.Learnt κs a r₁ e₁ → pack-promise.Learnt κs a r₂ e₂ → e₁.1.0.now ≡ e₂.1.0.now
 pack κs a r₁ r₂ e₁ e₂ p q = p ∙ sym q

@@ -29,13 +29,13 @@ items_drop (suc n) k l d e = rw (drop-cons l k d (omega arith), items_drop n (su
 
 -- ---- the parts of a packed record, there and back
 
-state-small : (s : State) → leb (state_number s) 5 ≡ true
-state-small State.Idle = refl
-state-small State.MoCallSetup = refl
-state-small State.MtCallSetup = refl
-state-small State.CallActive = refl
-state-small State.Wait = refl
-state-small State.CallDisconnect = refl
+state_small : (s : State) → leb (state_number s) 5 ≡ true
+state_small State.Idle = refl
+state_small State.MoCallSetup = refl
+state_small State.MtCallSetup = refl
+state_small State.CallActive = refl
+state_small State.Wait = refl
+state_small State.CallDisconnect = refl
 
 state_there : (s : State) → state_is (state_number s) ≡ s
 state_there State.Idle = refl
@@ -45,29 +45,29 @@ state_there State.CallActive = refl
 state_there State.Wait = refl
 state_there State.CallDisconnect = refl
 
-state-back : (n : ℕ) → n ≤ 5 → state_number (state_is n) ≡ n
-state-back zero h = refl
-state-back (suc zero) h = refl
-state-back (suc (suc zero)) h = refl
-state-back (suc (suc (suc zero))) h = refl
-state-back (suc (suc (suc (suc zero)))) h = refl
-state-back (suc (suc (suc (suc (suc n))))) h = omega arith
+state_back : (n : ℕ) → n ≤ 5 → state_number (state_is n) ≡ n
+state_back zero h = refl
+state_back (suc zero) h = refl
+state_back (suc (suc zero)) h = refl
+state_back (suc (suc (suc zero))) h = refl
+state_back (suc (suc (suc (suc zero)))) h = refl
+state_back (suc (suc (suc (suc (suc n))))) h = omega arith
 
-path-small : (p : Path) → leb (path_number p) 2 ≡ true
-path-small Path.Up = refl
-path-small Path.Broken = refl
-path-small Path.Restoring = refl
+path_small : (p : Path) → leb (path_number p) 2 ≡ true
+path_small Path.Up = refl
+path_small Path.Broken = refl
+path_small Path.Restoring = refl
 
 path_there : (p : Path) → path_is (path_number p) ≡ p
 path_there Path.Up = refl
 path_there Path.Broken = refl
 path_there Path.Restoring = refl
 
-path-back : (n : ℕ) → n ≤ 2 → path_number (path_is n) ≡ n
-path-back zero h = refl
-path-back (suc zero) h = refl
-path-back (suc (suc zero)) h = refl
-path-back (suc (suc (suc n))) h = absurd (omega arith)
+path_back : (n : ℕ) → n ≤ 2 → path_number (path_is n) ≡ n
+path_back zero h = refl
+path_back (suc zero) h = refl
+path_back (suc (suc zero)) h = refl
+path_back (suc (suc (suc n))) h = absurd (omega arith)
 
 pub flag_small : (b : Bool) → leb (flag b) 1 ≡ true
 flag_small true = refl
@@ -77,33 +77,33 @@ pub flag_there : (b : Bool) → eqb (flag b) 1 ≡ b
 flag_there true = refl
 flag_there false = refl
 
-pub flag-back : (n : ℕ) → n ≤ 1 → flag (eqb n 1) ≡ n
-flag-back zero h = refl
-flag-back (suc zero) h = refl
-flag-back (suc (suc n)) h = absurd (omega arith)
+pub flag_back : (n : ℕ) → n ≤ 1 → flag (eqb n 1) ≡ n
+flag_back zero h = refl
+flag_back (suc zero) h = refl
+flag_back (suc (suc n)) h = absurd (omega arith)
 
 -- the number that bytes stand for has those bytes
-pub bytes-number : (w at : ℕ) (s : List ℕ) → ((i : ℕ) → get_or s i 0 < 256) → bytes w (number w s at) ≡ items w at s 0
+pub bytes_number : (w at : ℕ) (s : List ℕ) → ((i : ℕ) → get_or s i 0 < 256) → bytes w (number w s at) ≡ items w at s 0
 unfolding number bytes
-bytes-number zero at s small = refl
-bytes-number (suc w) at s small =
+bytes_number zero at s small = refl
+bytes_number (suc w) at s small =
     let low : (get_or s at 0 + 256 * number w s (suc at)) % 256 ≡ get_or s at 0 = omega (arith, small at) in
     let high : (get_or s at 0 + 256 * number w s (suc at)) / 256 ≡ number w s (suc at) = omega (arith, small at) in
-    rw (low, high, bytes-number w (suc at) s small)
+    rw (low, high, bytes_number w (suc at) s small)
 
 -- ---- the laws
 
-pub packed-length : (c : Call) → length (packed c) ≡ 22
+pub packed_length : (c : Call) → length (packed c) ≡ 22
 unfolding packed names settings running bytes
-packed-length c = refl
+packed_length c = refl
 
 pub is_record_lem : (c : Call) → is_record (packed c) ≡ true
 unfolding is_record packed names settings running bytes
-is_record_lem c = simp (state-small, path-small, flag_small)
+is_record_lem c = simp (state_small, path_small, flag_small)
 
-pub packed-is-unpacked : PackedIsUnpacked
+pub packed_is_unpacked : PackedIsUnpacked
 unfolding unpacked held packed names settings running bytes number
-packed-is-unpacked c fit =
+packed_is_unpacked c fit =
     let id : c.id % 256 + 256 * (c.id / 256 % 256 + 256 * 0) ≡ c.id = omega (arith, fit.id) in
     let a = c.address in
     let address : a % 256 + 256 * (a / 256 % 256 + 256 * (a / 256 / 256 % 256 + 256 * (a / 256 / 256 / 256 % 256 + 256 * 0))) ≡ a =
@@ -111,21 +111,21 @@ packed-is-unpacked c fit =
     rw (is_record_lem c)
     (simp (state_there, path_there, flag_there) (rw (id, address, items_drop 7 0 c.timers false fit.timers)))
 
-pub sound-is-unpacked : SoundIsUnpacked
+pub sound_is_unpacked : SoundIsUnpacked
 unfolding sound in_range
-sound-is-unpacked c ok seven =
+sound_is_unpacked c ok seven =
     let id : leb c.id 16383 ≡ true = search (left, right) depth 20 in
     let address : leb c.address 16777215 ≡ true = search (left, right) depth 20 in
-    packed-is-unpacked c (record { id = omega (arith, leb-true c.id 16383 id); address = omega (arith, leb-true c.address 16777215 address); timers = seven })
+    packed_is_unpacked c (record { id = omega (arith, leb-true c.id 16383 id); address = omega (arith, leb-true c.address 16777215 address); timers = seven })
 
 -- bytes that are unpacked as a record hold it
-pub unpacked-is-held : (c : Call) → unpacked (packed c) ≡ some c → held (packed c) ≡ c
+pub unpacked_is_held : (c : Call) → unpacked (packed c) ≡ some c → held (packed c) ≡ c
 unfolding unpacked
-unpacked-is-held c is = let same : some (held (packed c)) ≡ some c = rw (is_record_lem c) at is in cc
+unpacked_is_held c is = let same : some (held (packed c)) ≡ some c = rw (is_record_lem c) at is in cc
 
-pub held-is-packed : HeldIsPacked
+pub held_is_packed : HeldIsPacked
 unfolding is_record held packed names settings running
-held-is-packed s small ok =
+held_is_packed s small ok =
     let whole : eqb (length s) 22 ≡ true = search (left, right) depth 20 in
     let state : leb (get_or s 0 0) 5 ≡ true = search (left, right) depth 20 in
     let path : leb (get_or s 10 0) 2 ≡ true = search (left, right) depth 20 in
@@ -137,16 +137,16 @@ held-is-packed s small ok =
     let t310 : leb (get_or s 19 0) 1 ≡ true = search (left, right) depth 20 in
     let t311 : leb (get_or s 20 0) 1 ≡ true = search (left, right) depth 20 in
     rw (
-      state-back (get_or s 0 0) (leb-true _ _ state),
-      bytes-number 2 1 s small,
-      bytes-number 4 3 s small,
-      path-back (get_or s 10 0) (leb-true _ _ path),
-      flag-back (get_or s 14 0) (leb-true _ _ t301),
-      flag-back (get_or s 15 0) (leb-true _ _ t302),
-      flag-back (get_or s 16 0) (leb-true _ _ t303),
-      flag-back (get_or s 17 0) (leb-true _ _ t306),
-      flag-back (get_or s 18 0) (leb-true _ _ t308),
-      flag-back (get_or s 19 0) (leb-true _ _ t310),
-      flag-back (get_or s 20 0) (leb-true _ _ t311),
+      state_back (get_or s 0 0) (leb-true _ _ state),
+      bytes_number 2 1 s small,
+      bytes_number 4 3 s small,
+      path_back (get_or s 10 0) (leb-true _ _ path),
+      flag_back (get_or s 14 0) (leb-true _ _ t301),
+      flag_back (get_or s 15 0) (leb-true _ _ t302),
+      flag_back (get_or s 16 0) (leb-true _ _ t303),
+      flag_back (get_or s 17 0) (leb-true _ _ t306),
+      flag_back (get_or s 18 0) (leb-true _ _ t308),
+      flag_back (get_or s 19 0) (leb-true _ _ t310),
+      flag_back (get_or s 20 0) (leb-true _ _ t311),
     )
     (items_drop 22 0 s 0 (eqb-true _ _ whole))

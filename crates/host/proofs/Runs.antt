@@ -15,68 +15,68 @@ use Rattle.callcontrol.specs.Call.{fresh_call}
 use Rattle.callcontrol.specs.Step.{Outcome}
 use Rattle.demands.specs.Runs.{Turn, outcome, next, run, taken_in, written_by}
 use Rattle.demands.specs.Demands.{Kept}
-use Rattle.demands.proofs.Demands.{refuses, fresh-is-sound, step-keeps-sound, told-by-history, reads-back}
+use Rattle.demands.proofs.Demands.{refuses, fresh_is_sound, step_keeps_sound, told_by_history, reads_back}
 use Rattle.demands.proofs.Sound.{always}
 use Rattle.host.specs.Packing.{names, settings, running, packed, unpacked}
 use Rattle.host.specs.Entries.{Left, stepped, freshened, host_step}
 use Rattle.host.specs.Runs.{host_run, after, RunIsPacked, TurnIsStep, TurnReadsBack, PlaneByHistory}
-use Rattle.host.proofs.Packing.{packed-length, sound-is-unpacked}
+use Rattle.host.proofs.Packing.{packed_length, sound_is_unpacked}
 use Rattle.host.proofs.Small.{step_small}
 
 -- over 22 bytes a packed record leaves none of them
 nothing_left : (s : List ℕ) → length s ≡ 22 → drop 22 s ≡ []
 nothing_left s h = drop_of_length-le s {i = 22} (omega arith)
 
-append-none : (l : List ℕ) → l ++ [] ≡ l
-append-none [] = refl
-append-none (x ∷ l) = ap (λ r. x ∷ r) (append-none l)
+append_none : (l : List ℕ) → l ++ [] ≡ l
+append_none [] = refl
+append_none (x ∷ l) = ap (λ r. x ∷ r) (append_none l)
 
-packed-over : (s : List ℕ) (c : Call) → length s ≡ 22 → sets s 0 (packed c) ≡ packed c
-packed-over s c h =
-    sets-eq (packed c) s 0 (omega (arith, packed-length c))
-    ∙ rw (packed-length c, nothing_left s h, append-none (packed c))
+packed_over : (s : List ℕ) (c : Call) → length s ≡ 22 → sets s 0 (packed c) ≡ packed c
+packed_over s c h =
+    sets-eq (packed c) s 0 (omega (arith, packed_length c))
+    ∙ rw (packed_length c, nothing_left s h, append_none (packed c))
 
 -- a step on a packed record that is sound
-turn-packed : (c : Call) (t : Turn) → Kept c → host_step (packed c) t.event t.buffer ≡ stepped (packed c) (outcome c t)
+turn_packed : (c : Call) (t : Turn) → Kept c → host_step (packed c) t.event t.buffer ≡ stepped (packed c) (outcome c t)
 unfolding host_step outcome
-turn-packed c t k = rw (sound-is-unpacked c k.meets k.size)
+turn_packed c t k = rw (sound_is_unpacked c k.meets k.size)
 
-step-packed : (c : Call) (t : Turn) → Kept c → (host_step (packed c) t.event t.buffer).call ≡ packed (next c t)
+step_packed : (c : Call) (t : Turn) → Kept c → (host_step (packed c) t.event t.buffer).call ≡ packed (next c t)
 unfolding next outcome
-step-packed c t k = ap (λ (l : Left). l.call) (turn-packed c t k) ∙ by_answer (eqb (outcome c t).answer 0) refl
+step_packed c t k = ap (λ (l : Left). l.call) (turn_packed c t k) ∙ by_answer (eqb (outcome c t).answer 0) refl
   where
     by_answer : (b : Bool) → eqb (outcome c t).answer 0 ≡ b → cond b (sets (packed c) 0 (packed (outcome c t).call)) (packed c) ≡ packed (outcome c t).call
-    by_answer true e = packed-over (packed c) (outcome c t).call (packed-length c)
+    by_answer true e = packed_over (packed c) (outcome c t).call (packed_length c)
     by_answer false e = ap (λ (o : Outcome). packed o.call) (sym (refuses c t.event t.buffer (outcome c t).answer refl (eqb-false _ 0 e)))
 
-run-packed : (c : Call) (ts : List Turn) → Kept c → host_run (packed c) ts ≡ packed (run c ts)
+run_packed : (c : Call) (ts : List Turn) → Kept c → host_run (packed c) ts ≡ packed (run c ts)
 unfolding host_run run next outcome
-run-packed c [] k = refl
-run-packed c (t ∷ ts) k = rw (step-packed c t k) (run-packed (next c t) ts (step-keeps-sound c t.event t.buffer k))
+run_packed c [] k = refl
+run_packed c (t ∷ ts) k = rw (step_packed c t k) (run_packed (next c t) ts (step_keeps_sound c t.event t.buffer k))
 
 begun : (s : List ℕ) → length s ≡ 22 → (freshened s).1 ≡ packed fresh_call
 unfolding freshened
-begun s h = rw (eq-eqb (length s) 22 h) (packed-over s fresh_call h)
+begun s h = rw (eq-eqb (length s) 22 h) (packed_over s fresh_call h)
 
-pub run-is-packed : RunIsPacked
-run-is-packed s ts h = rw (begun s h) (run-packed fresh_call ts fresh-is-sound)
+pub run_is_packed : RunIsPacked
+run_is_packed s ts h = rw (begun s h) (run_packed fresh_call ts fresh_is_sound)
 
-pub turn-is-step : TurnIsStep
-turn-is-step s ts t h = rw (run-is-packed s ts h) (turn-packed (run fresh_call ts) t (always ts))
+pub turn_is_step : TurnIsStep
+turn_is_step s ts t h = rw (run_is_packed s ts h) (turn_packed (run fresh_call ts) t (always ts))
 
 -- the count is in the low two bytes of the result
 low : (answer place count : ℕ) → count ≤ 122 → (answer * 16777216 + place * 65536 + count) % 65536 ≡ count
 low answer place count h = omega arith
 
-pub turn-reads-back : TurnReadsBack
+pub turn_reads_back : TurnReadsBack
 unfolding outcome
-turn-reads-back s ts t h =
+turn_reads_back s ts t h =
     let c = run fresh_call ts in
-    rw (turn-is-step s ts t h, low (outcome c t).answer (outcome c t).place (outcome c t).count (step_small c t.event t.buffer refl)) (reads-back c t (always ts))
+    rw (turn_is_step s ts t h, low (outcome c t).answer (outcome c t).place (outcome c t).count (step_small c t.event t.buffer refl)) (reads_back c t (always ts))
 
 plane_byte : (c : Call) → get_or (packed c) 11 0 ≡ c.plane
 unfolding packed names settings running bytes
 plane_byte c = refl
 
-pub plane-by-history : PlaneByHistory
-plane-by-history s ts h = rw (run-is-packed s ts h) (plane_byte (run fresh_call ts) ∙ sym (told-by-history ts).1 ∙ (told-by-history ts).0)
+pub plane_by_history : PlaneByHistory
+plane_by_history s ts h = rw (run_is_packed s ts h) (plane_byte (run fresh_call ts) ∙ sym (told_by_history ts).1 ∙ (told_by_history ts).0)

@@ -16,59 +16,59 @@ use Rattle.pieces.specs.Next.{Outcome, fresh_reader, stopped_reader, refusal, ke
 use Rattle.pieces.specs.Runs as runs
 use Rattle.pieces.specs.Runs.{Fed, feed_within, feed, run}
 use Rattle.pieces.specs.Claims.{Small}
-use Rattle.pieces.proofs.Claims.{small-numbers, every-cutting, loop_ends}
+use Rattle.pieces.proofs.Claims.{small_numbers, every_cutting, loop_ends}
 use Rattle.host.specs.SerialLine.{reader_bytes, is_reader, reader_of, found_word, LeftByPiece, left_by, reader_freshened, host_next}
 use Rattle.host.specs.SerialRuns.{answer_of, where_of, size_of, used_of, ReadOff, found_then, read_within, read_piece, read_then, line_run, shown_of, packed_fed, LineIsPacked, CallIsNext, EveryCuttingRead, LineEnds, CutSo, StoppedSo}
-use Rattle.host.proofs.SerialLine.{is-two, stored, reader-is-unpacked, reader-is-packed}
+use Rattle.host.proofs.SerialLine.{is_two, stored, reader_is_unpacked, reader_is_packed}
 
 -- ---- each number of a result
 
 -- where a record may be
-handed-where : (b : Bool) (carried : ℕ) (carry piece : List ℕ) (n : ℕ) → eqb carried 0 ≡ b → (handed_on carried carry piece n).lies ≤ 2
+handed_where : (b : Bool) (carried : ℕ) (carry piece : List ℕ) (n : ℕ) → eqb carried 0 ≡ b → (handed_on carried carry piece n).lies ≤ 2
 unfolding handed_on
-handed-where true carried carry piece n e = rw e (omega arith)
-handed-where false carried carry piece n e = rw e (omega arith)
+handed_where true carried carry piece n e = rw e (omega arith)
+handed_where false carried carry piece n e = rw e (omega arith)
 
-where-by : (b₁ b₂ : Bool) (f : Front) (r : Reader) (carry piece : List ℕ)
+where_by : (b₁ b₂ : Bool) (f : Front) (r : Reader) (carry piece : List ℕ)
     → (cond b₁ (refusal 22 r carry)
     (cond b₂ (refusal 21 r carry) (by_front f (kept r.carried carry piece) (handed_on r.carried carry piece) (refusal 20 stopped_reader carry)))
     ).lies
     ≤ 2
 unfolding kept
-where-by true b₂ f r carry piece = omega arith
-where-by false true f r carry piece = omega arith
-where-by false false Unended r carry piece = omega arith
-where-by false false (Whole n) r carry piece = handed-where (eqb r.carried 0) r.carried carry piece n refl
-where-by false false Impossible r carry piece = omega arith
+where_by true b₂ f r carry piece = omega arith
+where_by false true f r carry piece = omega arith
+where_by false false Unended r carry piece = omega arith
+where_by false false (Whole n) r carry piece = handed_where (eqb r.carried 0) r.carried carry piece n refl
+where_by false false Impossible r carry piece = omega arith
 
 where_small : (r : Reader) (carry piece : List ℕ) → (next_of r carry piece).lies ≤ 2
 unfolding next_of found
 where_small r carry piece =
-    where-by (ltb (length carry) 64) (r.stopped || ltb 63 r.carried) (begun r.carried (front (take r.carried carry ++ piece))) r carry piece
+    where_by (ltb (length carry) 64) (r.stopped || ltb 63 r.carried) (begun r.carried (front (take r.carried carry ++ piece))) r carry piece
 
 module _ (a w n u : ℕ) (hw : w ≤ 2) (hn : n ≤ 64) (hu : u ≤ 64) where
-  answer-off : answer_of (found_word a w n u) ≡ a
-  answer-off = omega arith
+  answer_off : answer_of (found_word a w n u) ≡ a
+  answer_off = omega arith
 
-  where-off : where_of (found_word a w n u) ≡ w
-  where-off = omega arith
+  where_off : where_of (found_word a w n u) ≡ w
+  where_off = omega arith
 
-  size-off : size_of (found_word a w n u) ≡ n
-  size-off = omega arith
+  size_off : size_of (found_word a w n u) ≡ n
+  size_off = omega arith
 
-  used-off : used_of (found_word a w n u) ≡ u
-  used-off = omega arith
+  used_off : used_of (found_word a w n u) ≡ u
+  used_off = omega arith
 
 -- ---- one call over packed bytes
 
-abbrev packed-left : Outcome → LeftByPiece
-packed-left o =
+abbrev packed_left : Outcome → LeftByPiece
+packed_left o =
     record { result = found_word o.answer o.lies o.size o.used; reader = reader_bytes o.reader; carry = o.carry }
 
-next-packed : (r : Reader) (carry piece : List ℕ) → r.carried ≤ 63 → host_next (reader_bytes r) carry piece ≡ packed-left (next_of r carry piece)
+next_packed : (r : Reader) (carry piece : List ℕ) → r.carried ≤ 63 → host_next (reader_bytes r) carry piece ≡ packed_left (next_of r carry piece)
 unfolding host_next
-next-packed r carry piece h =
-    let u = reader-is-unpacked r h in
+next_packed r carry piece h =
+    let u = reader_is_unpacked r h in
     ap (λ (b : Bool).
     cond b (left_by (reader_bytes r) (next_of (reader_of (reader_bytes r)) carry piece)) (record { result = found_word 1 0 0 0; reader = reader_bytes r; carry = carry })) u.0
     ∙ ap (λ (x : Reader). left_by (reader_bytes r) (next_of x carry piece)) u.1
@@ -87,12 +87,12 @@ module _ (o : Outcome) (small : Small o) (lies : o.lies ≤ 2) (piece : List ℕ
   then_by true e = rw e
   then_by false e = rw e
 
-  then-packed : found_then (packed-left o) piece (packed_fed rest) ≡ packed_fed (runs.found_then o piece rest)
-  then-packed =
+  then_packed : found_then (packed_left o) piece (packed_fed rest) ≡ packed_fed (runs.found_then o piece rest)
+  then_packed =
       rw (
-        answer-off o.answer o.lies o.size o.used lies small.size small.used,
-        where-off o.answer o.lies o.size o.used lies small.size small.used,
-        size-off o.answer o.lies o.size o.used lies small.size small.used,
+        answer_off o.answer o.lies o.size o.used lies small.size small.used,
+        where_off o.answer o.lies o.size o.used lies small.size small.used,
+        size_off o.answer o.lies o.size o.used lies small.size small.used,
       )
       (then_by (eqb o.lies 0) refl)
 
@@ -103,20 +103,20 @@ unfolding read_within feed_within
 fed_packed zero r carry piece h = refl
 fed_packed (suc k) r carry piece h =
     let o = next_of r carry piece in
-    let small = small-numbers r carry piece h in
+    let small = small_numbers r carry piece h in
     let lies = where_small r carry piece in
-    let used = used-off o.answer o.lies o.size o.used lies small.size small.used in
-    ap (λ (l : LeftByPiece). found_then l piece (read_within k l.reader l.carry (drop (used_of l.result) piece))) (next-packed r carry piece h)
-    ∙ ap (λ (n : ℕ). found_then (packed-left o) piece (read_within k (reader_bytes o.reader) o.carry (drop n piece))) used
-    ∙ ap (found_then (packed-left o) piece) (fed_packed k o.reader o.carry (drop o.used piece) small.carried)
-    ∙ then-packed o small lies piece (feed_within k o.reader o.carry (drop o.used piece))
+    let used = used_off o.answer o.lies o.size o.used lies small.size small.used in
+    ap (λ (l : LeftByPiece). found_then l piece (read_within k l.reader l.carry (drop (used_of l.result) piece))) (next_packed r carry piece h)
+    ∙ ap (λ (n : ℕ). found_then (packed_left o) piece (read_within k (reader_bytes o.reader) o.carry (drop n piece))) used
+    ∙ ap (found_then (packed_left o) piece) (fed_packed k o.reader o.carry (drop o.used piece) small.carried)
+    ∙ then_packed o small lies piece (feed_within k o.reader o.carry (drop o.used piece))
 
 fed_few : (k : ℕ) (r : Reader) (carry piece : List ℕ) → r.carried ≤ 63 → (feed_within k r carry piece).reader.carried ≤ 63
 unfolding feed_within
 fed_few zero r carry piece h = h
 fed_few (suc k) r carry piece h =
     let o = next_of r carry piece in
-    let small = small-numbers r carry piece h in
+    let small = small_numbers r carry piece h in
     by (eqb o.lies 0) o (feed_within k o.reader o.carry (drop o.used piece)) refl small.carried (fed_few k o.reader o.carry (drop o.used piece) small.carried)
   where
     by : (b : Bool) (o : Outcome) (rest : Fed) → eqb o.lies 0 ≡ b → o.reader.carried ≤ 63 → rest.reader.carried ≤ 63
@@ -124,13 +124,13 @@ fed_few (suc k) r carry piece h =
     by true o rest e h₁ h₂ = rw e h₁
     by false o rest e h₁ h₂ = rw e h₂
 
-run-packed : (r : Reader) (carry : List ℕ) (pieces : List (List ℕ)) → r.carried ≤ 63 → line_run (reader_bytes r) carry pieces ≡ packed_fed (run r carry pieces)
+run_packed : (r : Reader) (carry : List ℕ) (pieces : List (List ℕ)) → r.carried ≤ 63 → line_run (reader_bytes r) carry pieces ≡ packed_fed (run r carry pieces)
 unfolding line_run run read_piece feed
-run-packed r carry [] h = refl
-run-packed r carry (p ∷ ps) h =
+run_packed r carry [] h = refl
+run_packed r carry (p ∷ ps) h =
     let f = feed_within (suc (length p)) r carry p in
     ap (λ (l : ReadOff). read_then l (line_run l.reader l.carry ps)) (fed_packed (suc (length p)) r carry p h)
-    ∙ ap (read_then (packed_fed f)) (run-packed f.reader f.carry ps (fed_few (suc (length p)) r carry p h))
+    ∙ ap (read_then (packed_fed f)) (run_packed f.reader f.carry ps (fed_few (suc (length p)) r carry p h))
 
 run_few : (r : Reader) (carry : List ℕ) (pieces : List (List ℕ)) → r.carried ≤ 63 → (run r carry pieces).reader.carried ≤ 63
 unfolding run feed
@@ -145,29 +145,29 @@ begun_fresh s h = rw (eq-eqb (length s) 2 h) (stored s 0 0 h)
 
 -- ---- the claims
 
-pub line-is-packed : LineIsPacked
-line-is-packed s carry pieces h =
-    ap (λ (l : List ℕ). line_run l carry pieces) (begun_fresh s h) ∙ run-packed fresh_reader carry pieces (omega arith)
+pub line_is_packed : LineIsPacked
+line_is_packed s carry pieces h =
+    ap (λ (l : List ℕ). line_run l carry pieces) (begun_fresh s h) ∙ run_packed fresh_reader carry pieces (omega arith)
 
-pub call-is-next : CallIsNext
-call-is-next s carry pieces piece h =
+pub call_is_next : CallIsNext
+call_is_next s carry pieces piece h =
     let f = run fresh_reader carry pieces in
-    ap (λ (l : ReadOff). host_next l.reader l.carry piece) (line-is-packed s carry pieces h)
-    ∙ next-packed f.reader f.carry piece (run_few fresh_reader carry pieces (omega arith))
+    ap (λ (l : ReadOff). host_next l.reader l.carry piece) (line_is_packed s carry pieces h)
+    ∙ next_packed f.reader f.carry piece (run_few fresh_reader carry pieces (omega arith))
 
-pub every-cutting-read : EveryCuttingRead
-every-cutting-read s carry pieces h room =
+pub every_cutting_read : EveryCuttingRead
+every_cutting_read s carry pieces h room =
     let f = run fresh_reader carry pieces in
-    let u = reader-is-unpacked f.reader (run_few fresh_reader carry pieces (omega arith)) in
-    ap shown_of (line-is-packed s carry pieces h)
+    let u = reader_is_unpacked f.reader (run_few fresh_reader carry pieces (omega arith)) in
+    ap shown_of (line_is_packed s carry pieces h)
     ∙ ap (λ (r : Reader). runs.shown (record { records = f.records; answers = f.answers; reader = r; carry = f.carry })) u.1
-    ∙ every-cutting carry pieces room
+    ∙ every_cutting carry pieces room
 
-pub line-ends : LineEnds
+pub line_ends : LineEnds
 unfolding read_piece feed
-line-ends k s carry piece is less =
-    let t = is-two s is in
-    let same : reader_bytes (reader_of s) ≡ s = sym (stored s _ _ t.two) ∙ reader-is-packed s is in
+line_ends k s carry piece is less =
+    let t = is_two s is in
+    let same : reader_bytes (reader_of s) ≡ s = sym (stored s _ _ t.two) ∙ reader_is_packed s is in
     rw (← same)
     (fed_packed k (reader_of s) carry piece t.carried
     ∙ ap packed_fed (loop_ends k (reader_of s) carry piece less)

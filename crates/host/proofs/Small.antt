@@ -21,7 +21,7 @@ use Rattle.callcontrol.specs.Call.{sound}
 use Rattle.callcontrol.specs.Rows.{row_for}
 use Rattle.callcontrol.specs.Writing.{held, messages_in, bytes_of, count_of}
 use Rattle.callcontrol.specs.Step.{Outcome, refusal_at, other_call, over_transmission, carried, decided, when_read, step_of}
-use Rattle.callcontrol.proofs.Laying.{messages-small}
+use Rattle.callcontrol.proofs.Laying.{messages_small}
 use Rattle.host.specs.Entries.{wrote_word}
 use Rattle.demands.proofs.Facts.{left, right}
 
@@ -43,7 +43,7 @@ read_few (taken e) c b =
     either (other_call c e) none
     (either (row_for c e).taken
     (either (over_transmission c e) none
-    (either (leb (length (bytes_of (messages_in (row_for c e)))) (length b)) (record { few = messages-small (row_for c e) }) none))
+    (either (leb (length (bytes_of (messages_in (row_for c e)))) (length b)) (record { few = messages_small (row_for c e) }) none))
     none)
 read_few (refused n place) c b = none
 

@@ -17,7 +17,7 @@ use Rattle.console.proofs.ByKeys.{lead_goes, lead_fits, led_by}
 use Rattle.host.specs.Entries.{word}
 use Rattle.host_console.specs.Table.{held_table, packed_into, TableLeft, console_left, console_host_step}
 use Rattle.host_console.proofs.Tables.{Known, whole, leads_nowhere}
-use Rattle.host_console.proofs.OnePlace.{same-table}
+use Rattle.host_console.proofs.OnePlace.{same_table}
 
 module _ (s : List ℕ) (place : ℕ) (ev b : List ℕ) {ks : List ℕ} (known : Known s ks) {l : Led} (leads : as_lead l ≡ lead_by ks place (read events ev)) where
   -- to a place: one of eight
@@ -26,17 +26,17 @@ module _ (s : List ℕ) (place : ℕ) (ev b : List ℕ) {ks : List ℕ} (known :
 
   pub to_one : {k : ℕ} {e : Event} → l ≡ Led.To k e → console_left s (at_place k (held_table s) e b) ≡ console_host_step s place ev b
   to_one same =
-      whole s place ev b known.is-table (lead_goes (held_table s) known.sound place ev (led_by (held_table s) place ev known.keys leads same) b)
+      whole s place ev b known.is_table_lem (lead_goes (held_table s) known.sound place ev (led_by (held_table s) place ev known.keys leads same) b)
 
   -- everywhere
   all_steps : {e : Event} → l ≡ Led.Everywhere e → everywhere (held_table s) e b ≡ console_of (held_table s) place ev b
   all_steps same = lead_goes (held_table s) known.sound place ev (led_by (held_table s) place ev known.keys leads same) b
 
-  pub all-aimed : {e : Event} → l ≡ Led.Everywhere e → aim_of e ≡ Aim.Every
-  all-aimed same = lead_fits (held_table s) known.sound place ev (led_by (held_table s) place ev known.keys leads same)
+  pub all_aimed : {e : Event} → l ≡ Led.Everywhere e → aim_of e ≡ Aim.Every
+  all_aimed same = lead_fits (held_table s) known.sound place ev (led_by (held_table s) place ev known.keys leads same)
 
   pub to_every : {e : Event} → l ≡ Led.Everywhere e → console_left s (everywhere (held_table s) e b) ≡ console_host_step s place ev b
-  to_every same = whole s place ev b known.is-table (all_steps same)
+  to_every same = whole s place ev b known.is_table_lem (all_steps same)
 
   -- nowhere: the bytes stay
   pub to_none : {a : ConsoleAnswer} {at n : ℕ} → ((i : ℕ) → get_or s i 0 < 256) → l ≡ Led.Refused a at → n ≡ console_number a
@@ -44,5 +44,5 @@ module _ (s : List ℕ) (place : ℕ) (ev b : List ℕ) {ks : List ℕ} (known :
   to_none {a} {at} {n} small same number =
       let sum : n * 16777216 + at * 65536 ≡ word (console_number a) at 0 = omega (arith, number) in
       (λ i. record { result = sum i; table = s; out = b })
-      ∙ leads_nowhere s b (console_number a) at (same-table s small known.is-table)
-      ∙ whole s place ev b known.is-table (lead_goes (held_table s) known.sound place ev (led_by (held_table s) place ev known.keys leads same) b)
+      ∙ leads_nowhere s b (console_number a) at (same_table s small known.is_table_lem)
+      ∙ whole s place ev b known.is_table_lem (lead_goes (held_table s) known.sound place ev (led_by (held_table s) place ev known.keys leads same) b)

@@ -10,10 +10,10 @@ use lib.Seq.{sets, set_comm, get_or-set_same, get_or-set_other}
 use Rattle.callcontrol.specs.declared.call.Call.{Call}
 use Rattle.console.specs.Table.{no_call, call_at}
 use Rattle.host.specs.Packing.{packed}
-use Rattle.host.proofs.Packing.{packed-length}
+use Rattle.host.proofs.Packing.{packed_length}
 use Rattle.host_console.specs.Table.{is_table, held_table, packed_at, packed_first, packed_into}
 use Rattle.host_console.proofs.Packing.{stays}
-use Rattle.host_console.proofs.Tables.{part_of, part-packed, all-packed, held_at, part_record, table-length, eight-held}
+use Rattle.host_console.proofs.Tables.{part_of, part_packed, all_packed, held_at, part_record, table_length, eight_held}
 
 -- ---- bytes that lie apart are stored in either order
 
@@ -37,7 +37,7 @@ module _ (s : List ℕ) (small : (i : ℕ) → get_or s i 0 < 256) (is : is_tabl
 
   kept : (n : ℕ) → n < 8 → packed_at (22 * n) (call_at (held_table s) n) s ≡ s
   kept n l =
-      let h = table-length s is in
+      let h = table_length s is in
       ap (λ (d : Call). packed_at (22 * n) d s) (held_at s n l) ∙ stays s small (22 * n) (omega arith) (part_record s n l is)
 
   -- the parts below the place stay
@@ -51,13 +51,13 @@ module _ (s : List ℕ) (small : (i : ℕ) → get_or s i 0 < 256) (is : is_tabl
   from : (d n : ℕ) → n ≡ suc (k + d) → n ≤ 8 → packed_first n with_one s ≡ packed_at (22 * k) c s
   from zero n e le =
       let m : n ≡ suc k = omega arith in
-      let h = eight-held s in
+      let h = eight_held s in
       ap (λ (x : ℕ). packed_first x with_one s) m
       ∙ (λ i. packed_at (22 * k) (get_or-set_same (held_table s) k c no_call (omega arith) i) (below k (omega arith) i))
   from (suc d) n e le =
       let j = suc (k + d) in
       let m : n ≡ suc j = omega arith in
-      let size = packed-length c in
+      let size = packed_length c in
       ap (λ (x : ℕ). packed_first x with_one s) m
       ∙ (λ i. packed_at (22 * j) (get_or-set_other (held_table s) k j c no_call (λ x. omega arith) i) (from d j refl (omega arith) i))
       ∙ sets_past s (22 * k) (22 * j) (packed c) (packed (call_at (held_table s) j)) (omega arith)
@@ -70,8 +70,8 @@ module _ (s : List ℕ) (small : (i : ℕ) → get_or s i 0 < 256) (is : is_tabl
   -- as the code packs it, into a part of the bytes
   pub packed_one : {y : List ℕ} → y ≡ sets (part_of k s) 0 (packed c) → put_mid (22 * k) (22 * k + 22 - 22 * k) s y ≡ packed_into with_one s
   packed_one is-part =
-      let h = table-length s is in
-      part-packed s k c (omega arith) is-part ∙ one_place
+      let h = table_length s is in
+      part_packed s k c (omega arith) is-part ∙ one_place
 
 -- ---- the first places
 
@@ -82,10 +82,10 @@ module _
   -- a part of the others, packed behind the first n of all
   over_first : (j : ℕ) → upto ≤ j → j < 8 → (n : ℕ) → n ≤ j → packed_at (22 * j) (call_at calls j) (packed_first n calls s) ≡ packed_first n calls s
   over_first j from lt zero le-j =
-      let h = table-length s is in
+      let h = table_length s is in
       ap (λ (d : Call). packed_at (22 * j) d s) (same j from lt ∙ held_at s j lt) ∙ stays s small (22 * j) (omega arith) (part_record s j lt is)
   over_first j from lt (suc n) le-j =
-      let size = packed-length (call_at calls n) in
+      let size = packed_length (call_at calls n) in
       sets_past (packed_first n calls s) (22 * n) (22 * j) (packed (call_at calls n)) (packed (call_at calls j)) (omega arith)
       ∙ ap (λ (z : List ℕ). packed_at (22 * n) (call_at calls n) z) (over_first j from lt n (omega arith))
 
@@ -98,18 +98,18 @@ module _
       ∙ over_first j (omega arith) (omega arith) j (omega arith)
       ∙ from_first d j refl (omega arith)
 
-  pub first-places : packed_first upto calls s ≡ packed_into calls s
-  first-places = sym (from_first (8 - upto) 8 (omega arith) (omega arith)) ∙ all-packed calls s
+  pub first_places : packed_first upto calls s ≡ packed_into calls s
+  first_places = sym (from_first (8 - upto) 8 (omega arith) (omega arith)) ∙ all_packed calls s
 
 -- nothing changes where what is held is packed again
-pub same-table : (s : List ℕ) (small : (i : ℕ) → get_or s i 0 < 256) → is_table s ≡ true → packed_into (held_table s) s ≡ s
+pub same_table : (s : List ℕ) (small : (i : ℕ) → get_or s i 0 < 256) → is_table s ≡ true → packed_into (held_table s) s ≡ s
 unfolding packed_into
-same-table s small is = all 8 (omega arith)
+same_table s small is = all 8 (omega arith)
   where
     all : (n : ℕ) → n ≤ 8 → packed_first n (held_table s) s ≡ s
     all zero le = refl
     all (suc n) le =
-        let h = table-length s is in
+        let h = table_length s is in
         ap (λ (z : List ℕ). packed_at (22 * n) (call_at (held_table s) n) z) (all n (omega arith))
         ∙ ap (λ (d : Call). packed_at (22 * n) d s) (held_at s n (omega arith))
         ∙ stays s small (22 * n) (omega arith) (part_record s n (omega arith) is)

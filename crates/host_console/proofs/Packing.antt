@@ -13,13 +13,13 @@ use lib.Seq.{sets, sets-eq, length-sets, length-take-le, drop-drop, take_at, dro
 use Rattle.records.proofs.Laws.{by_test}
 use Rattle.callcontrol.specs.declared.call.Call.{Call}
 use Rattle.console.specs.Table.{no_call, call_at}
-use Rattle.console.proofs.Tables.{eight_of, sound-at}
+use Rattle.console.proofs.Tables.{eight_of, sound_at}
 use Rattle.demands.proofs.Facts.{left, right}
 use Rattle.host.specs.Packing.{packed, is_record, held, unpacked}
 use Rattle.host_console.specs.Table.{record_at, is_table, held_table, packed_at, packed_into}
 use Rattle.host_console.specs.Laws.{PackedIsTable, PackedTableIsHeld, SoundTableIsHeld, HeldTableIsPacked}
-use Rattle.host.proofs.Packing.{items, items_drop, packed-length, is_record_lem, packed-is-unpacked, sound-is-unpacked, unpacked-is-held, held-is-packed}
-use Rattle.host_console.proofs.Tables.{table-length}
+use Rattle.host.proofs.Packing.{items, items_drop, packed_length, is_record_lem, packed_is_unpacked, sound_is_unpacked, unpacked_is_held, held_is_packed}
+use Rattle.host_console.proofs.Tables.{table_length}
 
 -- ---- the parts one after the other
 
@@ -29,13 +29,13 @@ joined (c ∷ cs) = packed c ++ joined cs
 
 joined_at : (cs : List Call) (k : ℕ) → k < length cs → record_at (k * 22) (joined cs) ≡ packed (call_at cs k)
 joined_at [] k lt = absurd (omega arith)
-joined_at (c ∷ cs) zero lt = take_at (packed c) (joined cs) 22 (packed-length c)
+joined_at (c ∷ cs) zero lt = take_at (packed c) (joined cs) 22 (packed_length c)
 joined_at (c ∷ cs) (suc k) lt =
     let l = packed c ++ joined cs in
     let on : suc k * 22 ≡ 22 + k * 22 = omega arith in
     ap (λ (n : ℕ). take 22 (drop n l)) on
     ∙ ap (λ (z : List ℕ). take 22 z) (sym (drop-drop (k * 22) 22 l))
-    ∙ ap (λ (z : List ℕ). take 22 (drop (k * 22) z)) (drop_at (packed c) (joined cs) 22 (packed-length c))
+    ∙ ap (λ (z : List ℕ). take 22 (drop (k * 22) z)) (drop_at (packed c) (joined cs) 22 (packed_length c))
     ∙ joined_at cs k (omega arith)
 
 -- the eight records that are packed of a list
@@ -49,7 +49,7 @@ record Filled (x : List ℕ) (at : ℕ) (s t : List ℕ) : Type 0 where
 
 fill : {x s t : List ℕ} {at : ℕ} (c : Call) → at + 22 ≤ length s → Filled x at s t → Filled (x ++ packed c) (at + 22) s (packed_at at c t)
 fill {x} {s} {t} {at} c room f =
-    let n = packed-length c in
+    let n = packed_length c in
     let m = f.size in
     let whole = length-append x (drop at s) in
     let rest = length-drop at s in
@@ -97,9 +97,9 @@ over_any calls s t h k = parts calls s h ∙ sym (parts calls t k)
 
 -- ---- there
 
-pub packed-is-table : PackedIsTable
+pub packed_is_table : PackedIsTable
 unfolding is_table
-packed-is-table calls s h =
+packed_is_table calls s h =
     let p = part_at calls s h in
     rw (
       into_length calls s h,
@@ -119,7 +119,7 @@ pub holds : (calls : List Call) (s : List ℕ) → length s ≡ 176 → length c
 unfolding held_table
 holds calls s h n each =
     let p = part_at calls s h in
-    let there : (k : ℕ) → k < 8 → held (packed (call_at calls k)) ≡ call_at calls k = λ k lt. unpacked-is-held (call_at calls k) (each k lt) in
+    let there : (k : ℕ) → k < 8 → held (packed (call_at calls k)) ≡ call_at calls k = λ k lt. unpacked_is_held (call_at calls k) (each k lt) in
     rw (
       p 0 (lit< tt),
       p 1 (lit< tt),
@@ -140,12 +140,12 @@ holds calls s h n each =
     )
     (items_drop 8 0 calls no_call n)
 
-pub packed-table-is-held : PackedTableIsHeld
-packed-table-is-held calls s h n fit = holds calls s h n (λ k lt. packed-is-unpacked (call_at calls k) (fit k lt))
+pub packed_table_is_held : PackedTableIsHeld
+packed_table_is_held calls s h n fit = holds calls s h n (λ k lt. packed_is_unpacked (call_at calls k) (fit k lt))
 
-pub sound-table-is-held : SoundTableIsHeld
-sound-table-is-held calls s h ok sevens =
-    holds calls s h (eight_of calls ok) (λ k lt. sound-is-unpacked (call_at calls k) (sound-at calls k ok lt) (sevens k lt))
+pub sound_table_is_held : SoundTableIsHeld
+sound_table_is_held calls s h ok sevens =
+    holds calls s h (eight_of calls ok) (λ k lt. sound_is_unpacked (call_at calls k) (sound_at calls k ok lt) (sevens k lt))
 
 -- ---- and back
 
@@ -165,7 +165,7 @@ module _ (s : List ℕ) (small : (i : ℕ) → get_or s i 0 < 256) where
   pub stays : (at : ℕ) → at + 22 ≤ length s → is_record (record_at at s) ≡ true → packed_at at (held (record_at at s)) s ≡ s
   stays at room is =
       let v = record_at at s in
-      let same : packed (held v) ≡ v = held-is-packed v (part_small at room) is in
+      let same : packed (held v) ≡ v = held_is_packed v (part_small at room) is in
       let n = part_length at room in
       ap (λ (z : List ℕ). sets s at z) same
       ∙ sets-eq v s at (omega arith)
@@ -175,10 +175,10 @@ module _ (s : List ℕ) (small : (i : ℕ) → get_or s i 0 < 256) where
       ∙ ap (λ (z : List ℕ). take at s ++ z) (take-append-drop 22 (drop at s))
       ∙ take-append-drop at s
 
-pub held-table-is-packed : HeldTableIsPacked
+pub held_table_is_packed : HeldTableIsPacked
 unfolding is_table held_table packed_into
-held-table-is-packed s over small ok n =
-    let h = table-length s ok in
+held_table_is_packed s over small ok n =
+    let h = table_length s ok in
     let p0 : is_record (record_at 0 s) ≡ true = search (left, right) depth 20 in
     let p1 : is_record (record_at 22 s) ≡ true = search (left, right) depth 20 in
     let p2 : is_record (record_at 44 s) ≡ true = search (left, right) depth 20 in

@@ -21,7 +21,7 @@ use Rattle.console.proofs.Rooms.{place_few}
 use Rattle.console.specs.Console.{ConsoleOutcome, refuses_at, placed, at_place, console_of}
 use Rattle.demands.proofs.Facts.{left, right}
 use Rattle.host.specs.Packing.{packed, is_record, held}
-use Rattle.host.proofs.Packing.{packed-length}
+use Rattle.host.proofs.Packing.{packed_length}
 use Rattle.host.specs.Entries.{word}
 use Rattle.host_console.specs.declared.table.TableKeys.{TableKeys}
 use Rattle.host_console.specs.Table.{record_at, is_table, held_table, packed_at, packed_first, packed_into, TableLeft, console_left, console_host_step}
@@ -35,10 +35,10 @@ whole_part l v old new =
     let none : drop (0 + length v) l ≡ [] = drop_of_length-le l {i = 0 + length v} (omega arith) in
     sets-eq v l 0 (omega arith) ∙ ap (λ (z : List ℕ). take 0 l ++ v ++ z) none ∙ append-nil v
 
-packed-part : (s : List ℕ) (at : ℕ) (c : Call) → at + 22 ≤ length s → put_mid at 22 s (sets (take 22 (drop at s)) 0 (packed c)) ≡ packed_at at c s
-packed-part s at c room =
+packed_part : (s : List ℕ) (at : ℕ) (c : Call) → at + 22 ≤ length s → put_mid at 22 s (sets (take 22 (drop at s)) 0 (packed c)) ≡ packed_at at c s
+packed_part s at c room =
     let v = packed c in
-    let n = packed-length c in
+    let n = packed_length c in
     let part : length (take 22 (drop at s)) ≡ 22 = length-take-le 22 (drop at s) (rw (length-drop at s) (omega arith)) in
     ap (λ (z : List ℕ). take at s ++ (z ++ drop 22 (drop at s))) (whole_part (take 22 (drop at s)) v part n)
     ∙ ap (λ (z : List ℕ). take at s ++ (v ++ z)) (drop-drop 22 at s ∙ ap (λ (m : ℕ). drop (at + m) s) (sym n))
@@ -49,19 +49,19 @@ packed-part s at c room =
 abbrev pub part_of : ℕ → List ℕ → List ℕ
 part_of k s = take (22 * k + 22 - 22 * k) (drop (22 * k) s)
 
-part-size : (k : ℕ) → 22 * k + 22 - 22 * k ≡ 22
-part-size k = omega arith
+part_size : (k : ℕ) → 22 * k + 22 - 22 * k ≡ 22
+part_size k = omega arith
 
-part-is : (k : ℕ) (s : List ℕ) → part_of k s ≡ record_at (22 * k) s
-part-is k s = ap (λ (n : ℕ). take n (drop (22 * k) s)) (part-size k)
+part_is : (k : ℕ) (s : List ℕ) → part_of k s ≡ record_at (22 * k) s
+part_is k s = ap (λ (n : ℕ). take n (drop (22 * k) s)) (part_size k)
 
 -- a record into its part, as the code takes it
-pub part-packed : (s : List ℕ) (k : ℕ) (c : Call) {y : List ℕ} → 22 * k + 22 ≤ length s → y ≡ sets (part_of k s) 0 (packed c)
+pub part_packed : (s : List ℕ) (k : ℕ) (c : Call) {y : List ℕ} → 22 * k + 22 ≤ length s → y ≡ sets (part_of k s) 0 (packed c)
     → put_mid (22 * k) (22 * k + 22 - 22 * k) s y ≡ packed_at (22 * k) c s
-part-packed s k c room is =
+part_packed s k c room is =
     ap (λ (z : List ℕ). put_mid (22 * k) (22 * k + 22 - 22 * k) s z) is
-    ∙ ap (λ (n : ℕ). put_mid (22 * k) n s (sets (take n (drop (22 * k) s)) 0 (packed c))) (part-size k)
-    ∙ packed-part s (22 * k) c room
+    ∙ ap (λ (n : ℕ). put_mid (22 * k) n s (sets (take n (drop (22 * k) s)) 0 (packed c))) (part_size k)
+    ∙ packed_part s (22 * k) c room
 
 pub record Packing (calls : List Call) (s : List ℕ) (k : ℕ) (t : List ℕ) : Type 0 where
   pub bytes : t ≡ packed_first k calls s
@@ -72,7 +72,7 @@ pub pack_next : (calls : List Call) (s : List ℕ) (k : ℕ) {t y : List ℕ} �
 pack_next calls s k {t} {y} p lt is =
     let c = call_at calls k in
     let eight = p.size in
-    let part : put_mid (22 * k) (22 * k + 22 - 22 * k) t y ≡ packed_at (22 * k) c t = part-packed t k c (omega arith) is in
+    let part : put_mid (22 * k) (22 * k + 22 - 22 * k) t y ≡ packed_at (22 * k) c t = part_packed t k c (omega arith) is in
     record {
       bytes =
           part ∙ ap (λ (z : List ℕ). packed_at (22 * k) c z) p.bytes
@@ -80,12 +80,12 @@ pack_next calls s k {t} {y} p lt is =
       size = ap length part ∙ length-sets t (22 * k) (packed c) ∙ eight;
     }
 
-pub first-packed : (calls : List Call) (s : List ℕ) (k upto : ℕ) {t : List ℕ} → Packing calls s k t → k ≡ upto → t ≡ packed_first upto calls s
-first-packed calls s k upto p all = p.bytes ∙ ap (λ (n : ℕ). packed_first n calls s) all
+pub first_packed : (calls : List Call) (s : List ℕ) (k upto : ℕ) {t : List ℕ} → Packing calls s k t → k ≡ upto → t ≡ packed_first upto calls s
+first_packed calls s k upto p all = p.bytes ∙ ap (λ (n : ℕ). packed_first n calls s) all
 
-pub all-packed : (calls : List Call) (s : List ℕ) → packed_first 8 calls s ≡ packed_into calls s
+pub all_packed : (calls : List Call) (s : List ℕ) → packed_first 8 calls s ≡ packed_into calls s
 unfolding packed_into
-all-packed calls s = refl
+all_packed calls s = refl
 
 -- ---- the records of a table's parts
 
@@ -96,7 +96,7 @@ held_first (suc k) s = set (held_first k s) k (held (record_at (22 * k) s))
 
 pub hold_next : (s : List ℕ) (k : ℕ) {calls : List Call} {c : Call} → calls ≡ held_first k s → c ≡ held (part_of k s) → set calls k c ≡ held_first (k + 1) s
 hold_next s k before is =
-    (λ i. set (before i) k (is i)) ∙ ap (λ (z : List ℕ). set (held_first k s) k (held z)) (part-is k s)
+    (λ i. set (before i) k (is i)) ∙ ap (λ (z : List ℕ). set (held_first k s) k (held z)) (part_is k s)
     ∙ sym (ap (λ (n : ℕ). held_first n s) (add-one k))
 
 pub all_held : (s : List ℕ) (k : ℕ) {calls : List Call} → calls ≡ held_first k s → k ≡ 8 → calls ≡ held_table s
@@ -116,7 +116,7 @@ held_at s (suc (suc (suc (suc (suc (suc (suc zero))))))) lt = refl
 held_at s (suc (suc (suc (suc (suc (suc (suc (suc k)))))))) lt = absurd (omega arith)
 
 pub part_held : (s : List ℕ) (k : ℕ) {c : Call} → k < 8 → c ≡ held (part_of k s) → c ≡ call_at (held_table s) k
-part_held s k lt is = is ∙ ap (λ (z : List ℕ). held z) (part-is k s) ∙ sym (held_at s k lt)
+part_held s k lt is = is ∙ ap (λ (z : List ℕ). held z) (part_is k s) ∙ sym (held_at s k lt)
 
 -- ---- whether the parts are records
 
@@ -128,7 +128,7 @@ first_are (suc k) s = first_are k s && is_record (record_at (22 * k) s)
 first_more : (s : List ℕ) (k : ℕ) {b : Bool} → b ≡ is_record (part_of k s) → first_are (k + 1) s ≡ (first_are k s && b)
 first_more s k is =
     ap (λ (n : ℕ). first_are n s) (add-one k)
-    ∙ sym (ap (λ (x : Bool). first_are k s && x) (is ∙ ap (λ (z : List ℕ). is_record z) (part-is k s)))
+    ∙ sym (ap (λ (x : Bool). first_are k s && x) (is ∙ ap (λ (z : List ℕ). is_record z) (part_is k s)))
 
 -- where they are not, all are not
 first_other : (s : List ℕ) (k d m : ℕ) → m ≡ k + d → first_are k s ≡ false → first_are m s ≡ false
@@ -153,9 +153,9 @@ unfolding is_table
 all_parts s k before all = sym before ∙ ap (λ (n : ℕ). first_are n s) all
 
 -- a table has 176 bytes, and each part of it is a record
-pub table-length : (s : List ℕ) → is_table s ≡ true → length s ≡ 176
+pub table_length : (s : List ℕ) → is_table s ≡ true → length s ≡ 176
 unfolding is_table
-table-length s all =
+table_length s all =
     let whole : eqb (length s) 176 ≡ true = search (left, right) depth 20 in
     eqb-true _ _ whole
 
@@ -172,9 +172,9 @@ part_record s k lt all = right (first_are k s) _ (first_below s (suc k) (7 - k) 
 
 -- ---- reading
 
-where-any : (b : Bool) {A : Type 0} → A → Where b A
-where-any true a = a
-where-any false a = tt
+where_any : (b : Bool) {A : Type 0} → A → Where b A
+where_any true a = a
+where_any false a = tt
 
 pub not_all_bytes : (s ks : List ℕ) → (length s ≡ 176 → ⊥) → KeysOf (record { ok = false; keys = ks }) s
 unfolding is_table
@@ -190,19 +190,19 @@ unsound calls h = rw h (and-false (eqb (length calls) 8))
 pub not_sound : (s ks : List ℕ) → every? sound (held_table s) ≡ false → KeysOf (record { ok = false; keys = ks }) s
 not_sound s ks h = record { ok = rw (unsound (held_table s) h) (sym (and-false (is_table s))); keys = tt }
 
-sound-apart : (calls : List Call) → length calls ≡ 8 → every? sound calls ≡ true → table_sound calls ≡ apart calls
+sound_apart : (calls : List Call) → length calls ≡ 8 → every? sound calls ≡ true → table_sound calls ≡ apart calls
 unfolding table_sound
-sound-apart calls n h = rw (eq-eqb (length calls) 8 n, h)
+sound_apart calls n h = rw (eq-eqb (length calls) 8 n, h)
 
-pub eight-held : (s : List ℕ) → length (held_table s) ≡ 8
+pub eight_held : (s : List ℕ) → length (held_table s) ≡ 8
 unfolding held_table
-eight-held s = refl
+eight_held s = refl
 
 pub all_read : (s ks : List ℕ) {b : Bool} → true ≡ is_table s → every? sound (held_table s) ≡ true → ks ≡ keys_from 0 (held_table s) → b ≡ apart_by ks → KeysOf (record { ok = b; keys = ks }) s
 all_read s ks {b} are h is by =
     record {
-      ok = rw (← are, sound-apart (held_table s) (eight-held s) h) (by ∙ ap apart_by is ∙ sym (apart_by_lem 0 (held_table s) h));
-      keys = where-any b is;
+      ok = rw (← are, sound_apart (held_table s) (eight_held s) h) (by ∙ ap apart_by is ∙ sym (apart_by_lem 0 (held_table s) h));
+      keys = where_any b is;
     }
 
 -- what is known where it was read: it is a table, sound, and these are its keys
@@ -210,7 +210,7 @@ both : (a b : Bool) {x : Bool} → x ≡ (a && b) → x ≡ true → (a ≡ true
 both a b is so = (left a b (sym is ∙ so), right a b (sym is ∙ so))
 
 pub record Known (s : List ℕ) (ks : List ℕ) : Type 0 where
-  pub is-table : is_table s ≡ true
+  pub is_table_lem : is_table s ≡ true
   pub sound : table_sound (held_table s) ≡ true
   pub keys : ks ≡ keys_from 0 (held_table s)
 
@@ -218,7 +218,7 @@ pub known : (s : List ℕ) {r : TableKeys} → KeysOf r s → not r.ok ≡ false
 known s {r} k so =
     let yes : r.ok ≡ true = not-false r.ok so in
     let two = both (is_table s) (table_sound (held_table s)) k.ok yes in
-    record { is-table = two.0; sound = two.1; keys = rw yes at k.keys }
+    record { is_table_lem = two.0; sound = two.1; keys = rw yes at k.keys }
 
 -- ---- the entry
 
@@ -259,10 +259,10 @@ module _ (s : List ℕ) {o x : ConsoleOutcome} {n : ℕ} (step : o ≡ x) (numbe
       own ∙ ap (console_left s) step
 
 -- the step of one place, on the record that its part holds
-pub at-place : (s : List ℕ) (k : ℕ) (e : Event) (b : List ℕ) {c : Call} {o : Outcome} → c ≡ call_at (held_table s) k → o ≡ placed k c e b
+pub at_place_lem : (s : List ℕ) (k : ℕ) (e : Event) (b : List ℕ) {c : Call} {o : Outcome} → c ≡ call_at (held_table s) k → o ≡ placed k c e b
     → ◌≡◌ {A = ConsoleOutcome} (record { answer = o.answer; place = o.place; calls = set (held_table s) k o.call; count = o.count; buffer = o.buffer }) (at_place k (held_table s) e b)
 unfolding at_place
-at-place s k e b same step = rw (step, same)
+at_place_lem s k e b same step = rw (step, same)
 
 -- a refusal of where it goes leaves the bytes, whatever its number
 pub leads_nowhere : (s b : List ℕ) (n p : ℕ) → packed_into (held_table s) s ≡ s

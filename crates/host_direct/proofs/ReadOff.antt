@@ -14,7 +14,7 @@ use Rattle.records.specs.Bodies.{Wrote, wrote, not_written, size, flat_size, fla
 use Rattle.records.specs.Tables.{Table, Read, taken, refused, read, write, flat, fine}
 use Rattle.records.specs.Laws.{Lawful, WrongBody, wrong_size, wrong_field, wrong_together}
 use Rattle.records.proofs.Laws.{length-flat_bytes}
-use Rattle.records.proofs.Places.{place-is-wrong, place_only_with_four}
+use Rattle.records.proofs.Places.{place_is_wrong, place_only_with_four}
 use Rattle.direct.specs.declared.events.Event.{Event}
 use Rattle.direct.specs.declared.call.Call.{Call}
 use Rattle.direct.specs.Events.{events, EventKind, event_row, setup_request, dma_report, dm_connect, dm_disconnect, expiry}
@@ -28,7 +28,7 @@ use Rattle.direct.proofs.Turns.{by_tests}
 use Rattle.host_direct.specs.Packing.{unpacked}
 use Rattle.host_direct.specs.Entries.{word, freshened, step_on, host_step, read_word, wrote_word, checked, write_read, copied}
 use Rattle.host_direct.specs.Laws.{ReadsOff, FreshReadsOff, SteppedOff, StepReadsOff, CheckedOff, CheckReadsOff, WrittenOff, CopiedOff, CopyReadsOff}
-use Rattle.host_direct.proofs.Small.{step_small, event-small, message_small}
+use Rattle.host_direct.proofs.Small.{step_small, event_small, message_small}
 
 -- a result taken apart
 off : (a p n : ℕ) → p < 256 → n < 65536 → ReadsOff (a * 16777216 + p * 65536 + n) a p n
@@ -39,24 +39,24 @@ off a p n small few =
 
 -- ---- the places
 
-size-before : (before rest : List Letter) → size before ≤ size (before ++ rest)
-size-before [] rest = omega arith
-size-before (l ∷ before) rest = let h = size-before before rest in omega (arith, h)
+size_before : (before rest : List Letter) → size before ≤ size (before ++ rest)
+size_before [] rest = omega arith
+size_before (l ∷ before) rest = let h = size_before before rest in omega (arith, h)
 
 module _ (t : Table) (ok : Lawful t) (clash : t.clash < 256) (few : (k : t.Kind) → size (t.row_of k).letters ≤ 3) where
   in_body : (k : t.Kind) (s : List ℕ) (p : ℕ) → WrongBody t k s p → p < 256
   in_body k s p (wrong_size other) = omega arith
   in_body k s p (wrong_field long w) =
       let whole : size (t.row_of k).letters ≡ size (w.before ++ (w.letter ∷ w.after)) = ap size w.whole in
-      omega (arith, w.place, whole, few k, size-before w.before (w.letter ∷ w.after))
+      omega (arith, w.place, whole, few k, size_before w.before (w.letter ∷ w.after))
   in_body k s p (wrong_together long fit other) = clash
 
-  place-small : (s : List ℕ) (n p : ℕ) → read t s ≡ refused n p → p < 256
-  place-small s n p h = by (eqb n 4) refl
+  place_small : (s : List ℕ) (n p : ℕ) → read t s ≡ refused n p → p < 256
+  place_small s n p h = by (eqb n 4) refl
     where
       by : (b : Bool) → eqb n 4 ≡ b → p < 256
       by true e =
-          let w = place-is-wrong t ok s p (h ∙ ap (λ (m : ℕ). refused m p) (eqb-true n 4 e)) in in_body w.0 s p w.1.1
+          let w = place_is_wrong t ok s p (h ∙ ap (λ (m : ℕ). refused m p) (eqb-true n 4 e)) in in_body w.0 s p w.1.1
       by false e = let z : p ≡ 0 = place_only_with_four t ok s n p h (eqb-false n 4 e) in omega arith
 
 event_few : (k : EventKind) → size (event_row k).letters ≤ 3
@@ -76,17 +76,17 @@ message_few configure = omega arith
 message_few setup_confirm = omega arith
 message_few release_indication = omega arith
 
-event-place : (s : List ℕ) (n p : ℕ) → read events s ≡ refused n p → p < 256
-event-place = place-small events event_lawful (omega arith) event_few
+event_place : (s : List ℕ) (n p : ℕ) → read events s ≡ refused n p → p < 256
+event_place = place_small events event_lawful (omega arith) event_few
 
 message_place : (s : List ℕ) (n p : ℕ) → read messages s ≡ refused n p → p < 256
-message_place = place-small messages message_lawful (omega arith) message_few
+message_place = place_small messages message_lawful (omega arith) message_few
 
 -- ---- the entries
 
-pub fresh-reads-off : FreshReadsOff
+pub fresh_reads_off : FreshReadsOff
 unfolding freshened
-fresh-reads-off s = by (eqb (length s) 7) refl
+fresh_reads_off s = by (eqb (length s) 7) refl
   where
     by : (b : Bool) → eqb (length s) 7 ≡ b → ReadsOff (freshened s).0 (cond b 0 1) 0 (cond b 7 0)
     by true e = rw e (off 0 0 7 (omega arith) (omega arith))
@@ -98,25 +98,25 @@ tests_place false false room c d b = omega arith
 tests_place false true false c d b = omega arith
 tests_place false true true c d b = omega arith
 
-step-place : (c : Call) (e b : List ℕ) → (step_of c e b).place < 256
+step_place : (c : Call) (e b : List ℕ) → (step_of c e b).place < 256
 unfolding step_of decided carried
-step-place c e b = by (sound c) (read events e) refl
+step_place c e b = by (sound c) (read events e) refl
   where
     by : (ok : Bool) (r : Read Event) → read events e ≡ r → (cond ok (when_read r c b) (refusal 1 c b)).place < 256
     by false r h = omega arith
-    by true (refused n p) h = event-place e n p h
+    by true (refused n p) h = event_place e n p h
     by true (taken v) h = tests_place (beyond v) (row_for c v).taken (leb (length (bytes_of (messages_in (row_for c v)))) (length b)) c (row_for c v) b
 
-pub outcome-off : (c : Call) (e b : List ℕ) → ReadsOff (word (step_of c e b).answer (step_of c e b).place (step_of c e b).count) (step_of c e b).answer (step_of c e b).place (step_of c e b).count
-outcome-off c e b = let few = step_small c e b refl in off _ _ _ (step-place c e b) (omega (arith, few))
+pub outcome_off : (c : Call) (e b : List ℕ) → ReadsOff (word (step_of c e b).answer (step_of c e b).place (step_of c e b).count) (step_of c e b).answer (step_of c e b).place (step_of c e b).count
+outcome_off c e b = let few = step_small c e b refl in off _ _ _ (step_place c e b) (omega (arith, few))
 
-pub step-reads-off : StepReadsOff
+pub step_reads_off : StepReadsOff
 unfolding host_step
-step-reads-off s e b = by (unpacked s)
+step_reads_off s e b = by (unpacked s)
   where
     by : (o : Option Call) → SteppedOff o e b (step_on s o e b).result
     by none = off 1 0 0 (omega arith) (omega arith)
-    by (some c) = outcome-off c e b
+    by (some c) = outcome_off c e b
 
 module _ (t : Table) (small : (s : List ℕ) (n p : ℕ) → read t s ≡ refused n p → p < 256) where
   check_off : CheckReadsOff t
@@ -133,9 +133,9 @@ module _ (t : Table) (small : (s : List ℕ) (n p : ℕ) → read t s ≡ refuse
     wrote_off true false n x y z h = off 7 0 0 (omega arith) (omega arith)
     wrote_off false b n x y z h = off 4 0 0 (omega arith) (omega arith)
 
-    write-off : (v : t.Value) (out : List ℕ) → WrittenOff (write t v out).0 (wrote_word (write t v out).0)
+    write_off : (v : t.Value) (out : List ℕ) → WrittenOff (write t v out).0 (wrote_word (write t v out).0)
     unfolding write written
-    write-off v out =
+    write_off v out =
         wrote_off (fine t v) (leb (length (flat_bytes (flat t v))) (length out)) (length (flat_bytes (flat t v))) (sets out 0 (flat_bytes (flat t v))) out out (rw length-flat_bytes (few v))
 
     copy_off : CopyReadsOff t
@@ -143,17 +143,17 @@ module _ (t : Table) (small : (s : List ℕ) (n p : ℕ) → read t s ≡ refuse
     copy_off s out = by (read t s) refl
       where
         by : (r : Read t.Value) → read t s ≡ r → CopiedOff t r out (write_read t r out).0
-        by (taken v) h = write-off v out
+        by (taken v) h = write_off v out
         by (refused n p) h = off n p 0 (small s n p h) (omega arith)
 
 pub check_event_reads_off : CheckReadsOff events
-check_event_reads_off = check_off events event-place
+check_event_reads_off = check_off events event_place
 
 pub check_message_reads_off : CheckReadsOff messages
 check_message_reads_off = check_off messages message_place
 
 pub copy_event_reads_off : CopyReadsOff events
-copy_event_reads_off = copy_off events event-place event-small
+copy_event_reads_off = copy_off events event_place event_small
 
 pub copy_message_reads_off : CopyReadsOff messages
 copy_message_reads_off = copy_off messages message_place message_small

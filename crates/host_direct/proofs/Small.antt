@@ -26,13 +26,13 @@ unfolding outcome
 step_small c e b same = rw same (at_most_27 c (record { event = e; buffer = b }))
 
 -- a record has at most 7
-pub event-small : (e : Event) → flat_size (flat events e) ≤ 7
+pub event_small : (e : Event) → flat_size (flat events e) ≤ 7
 unfolding flat_size
-event-small (Event.SetupRequest target lowest attempts) = omega arith
-event-small (Event.DmaReport fared) = omega arith
-event-small (Event.DmConnect grade) = omega arith
-event-small Event.DmDisconnect = omega arith
-event-small (Event.Expiry timer) = omega arith
+event_small (Event.SetupRequest target lowest attempts) = omega arith
+event_small (Event.DmaReport fared) = omega arith
+event_small (Event.DmConnect grade) = omega arith
+event_small Event.DmDisconnect = omega arith
+event_small (Event.Expiry timer) = omega arith
 
 pub message_small : (m : Message) → flat_size (flat messages m) ≤ 7
 unfolding flat_size

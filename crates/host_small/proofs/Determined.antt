@@ -55,14 +55,14 @@ host_fresh s w (FreshByHost.allowed κs a r e p) = p
 host_step_lem : (s : List ℕ) (t : Turn) (l : Left) → StepByHost s t l → l ≡ host_step s t.event t.buffer
 host_step_lem s t l (StepByHost.allowed κs a r e p) = p
 
-small-fresh : (s : List ℕ) (w : ℕ × List ℕ) → FreshBySmall s w → w ≡ freshened s
-small-fresh s w (FreshBySmall.allowed κs a r e p) = p
+small_fresh : (s : List ℕ) (w : ℕ × List ℕ) → FreshBySmall s w → w ≡ freshened s
+small_fresh s w (FreshBySmall.allowed κs a r e p) = p
 
-small-step : (s : List ℕ) (t : Turn) (l : Left) → StepBySmall s t l → l ≡ host_step s t.event t.buffer
-small-step s t l (StepBySmall.allowed κs a r e p) = p
+small_step : (s : List ℕ) (t : Turn) (l : Left) → StepBySmall s t l → l ≡ host_step s t.event t.buffer
+small_step s t l (StepBySmall.allowed κs a r e p) = p
 
 -- OneRun of the entries themselves
 pub both_runs : (s one other : List ℕ) (w₁ w₂ : ℕ × List ℕ) (ts : List Turn)
     → FreshByHost s w₁ → FreshBySmall s w₂ → RunBy by_host w₁.1 ts one → RunBy by_small w₂.1 ts other
     → (one ≡ after s ts) × (other ≡ after s ts) × ((t : Turn) (l₁ l₂ : Left) → StepByHost one t l₁ → StepBySmall other t l₂ → l₁ ≡ l₂)
-both_runs = one_run by_host by_small (record { fresh = host_fresh; step = host_step_lem }) (record { fresh = small-fresh; step = small-step })
+both_runs = one_run by_host by_small (record { fresh = host_fresh; step = host_step_lem }) (record { fresh = small_fresh; step = small_step })

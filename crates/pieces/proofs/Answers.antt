@@ -14,16 +14,16 @@ use Rattle.pieces.specs.declared.reader.Reader.{Reader}
 use Rattle.pieces.specs.declared.reader.Found.{Found}
 use Rattle.pieces.specs.Stream.{front, by_front}
 use Rattle.pieces.specs.Next.{Outcome, as_outcome, stopped_reader, refusal, kept, handed_on, begun, found, next_of}
-use Rattle.pieces.proofs.Fronts.{unended-short, whole_is, begun-unended, begun-whole}
+use Rattle.pieces.proofs.Fronts.{unended_short, whole_is, begun_unended, begun_whole}
 use Rattle.pieces.proofs.Seen.{seen_length}
 
 abbrev refused_as : Answer → Reader → Found
 refused_as a r = record { answer = a; lies = Where.Nowhere; size = 0; used = 0; reader = r }
 
 module _ (r : Reader) (carry piece : List ℕ) where
-  pub small-carry : {f : Found} → f ≡ refused_as Answer.SmallCarry r → length carry < 64 → as_outcome f carry ≡ next_of r carry piece
+  pub small_carry : {f : Found} → f ≡ refused_as Answer.SmallCarry r → length carry < 64 → as_outcome f carry ≡ next_of r carry piece
   unfolding next_of
-  small-carry is h = rw (is, lt-ltb (length carry) 64 h)
+  small_carry is h = rw (is, lt-ltb (length carry) 64 h)
 
   pub stopped : {f : Found} → f ≡ refused_as Answer.Stopped r → 64 ≤ length carry → r.stopped ≡ true
       → as_outcome f carry ≡ next_of r carry piece
@@ -55,13 +55,13 @@ module _ (r : Reader) (carry piece : List ℕ) where
       pub stops : f ≡ Impossible → {g : Found} → g ≡ refused_as Answer.ImpossibleLength stopped_reader → as_outcome g carry ≡ next_of r carry piece
       stops e {g} k = rw k (rw e at goes)
 
-      pub keep-room : f ≡ Unended → r.carried + length piece ≤ length carry
-      keep-room e =
-          let short = unended-short _ (begun-unended r.carried _ (sym is ∙ e)) in
+      pub keep_room : f ≡ Unended → r.carried + length piece ≤ length carry
+      keep_room e =
+          let short = unended_short _ (begun_unended r.carried _ (sym is ∙ e)) in
           omega (arith, short, seen_length r.carried carry piece (omega arith))
 
       pub hand_on_room : {n : ℕ} → f ≡ Whole n → (r.carried < n) × (n ≤ r.carried + length piece) × (n ≤ length carry)
       hand_on_room {n} e =
-          let b = begun-whole r.carried _ (sym is ∙ e) in
+          let b = begun_whole r.carried _ (sym is ∙ e) in
           let w = whole_is _ b.0 in
           (b.1, omega (arith, w.there, seen_length r.carried carry piece (omega arith)), omega (arith, w.most))

@@ -16,7 +16,7 @@ use Rattle.pieces.specs.Next.{Outcome, stopped_reader, refusal, kept, handed_on,
 use Rattle.pieces.specs.Runs.{Fed, found_then, feed_within, feed, run}
 use Rattle.pieces.specs.Claims.{is_record, every?, Uses, is_impossible, applies, Answered, Refused, Small, SmallNumbers, BytesUsed, LoopEnds, WholeRecords}
 use Rattle.pieces.proofs.Completing.{completed}
-use Rattle.pieces.proofs.Fronts.{Wholly, whole_is, unended-short, begun-unended, begun-whole}
+use Rattle.pieces.proofs.Fronts.{Wholly, whole_is, unended_short, begun_unended, begun_whole}
 use Rattle.pieces.proofs.Seen.{seen_length}
 
 module _ (r : Reader) (carry piece : List ℕ) where
@@ -44,9 +44,9 @@ module _ (r : Reader) (carry piece : List ℕ) where
   way_by true b₂ f e₁ e₂ e = small
   way_by false true f e₁ e₂ e = still
   way_by false false Unended e₁ e₂ e =
-      keeps (record { room = ltb-false _ _ e₁; few = ltb-false _ _ (neither r.stopped _ e₂) }) (begun-unended r.carried _ e)
+      keeps (record { room = ltb-false _ _ e₁; few = ltb-false _ _ (neither r.stopped _ e₂) }) (begun_unended r.carried _ e)
   way_by false false (Whole n) e₁ e₂ e =
-      let b = begun-whole r.carried _ e in
+      let b = begun_whole r.carried _ e in
       hands (record { room = ltb-false _ _ e₁; few = ltb-false _ _ (neither r.stopped _ e₂) }) n b.0 b.1
   way_by false false Impossible e₁ e₂ e = stops
 
@@ -74,36 +74,36 @@ either P (suc m) carry piece n p q = rw (eqb-suc-zero m) (q (λ e. omega arith))
 
 -- ---- answers
 
-answer-by : (b₁ b₂ : Bool) (f : Front) (r : Reader) (carry piece : List ℕ)
+answer_by : (b₁ b₂ : Bool) (f : Front) (r : Reader) (carry piece : List ℕ)
     → (cond b₁ (refusal 22 r carry)
     (cond b₂ (refusal 21 r carry) (by_front f (kept r.carried carry piece) (handed_on r.carried carry piece) (refusal 20 stopped_reader carry)))
     ).answer
     ≡ cond b₁ 22 (cond b₂ 21 (cond (is_impossible f) 20 0))
 unfolding kept
-answer-by true b₂ f r carry piece = refl
-answer-by false true f r carry piece = refl
-answer-by false false Unended r carry piece = refl
-answer-by false false (Whole n) r carry piece = either (λ (o : Outcome). o.answer ≡ 0) r.carried carry piece n (λ e. refl) (λ e. refl)
-answer-by false false Impossible r carry piece = refl
+answer_by true b₂ f r carry piece = refl
+answer_by false true f r carry piece = refl
+answer_by false false Unended r carry piece = refl
+answer_by false false (Whole n) r carry piece = either (λ (o : Outcome). o.answer ≡ 0) r.carried carry piece n (λ e. refl) (λ e. refl)
+answer_by false false Impossible r carry piece = refl
 
 pub answered : Answered
 unfolding next_of found applies
 answered r carry piece =
-    answer-by (ltb (length carry) 64) (r.stopped || ltb 63 r.carried) (begun r.carried (front (take r.carried carry ++ piece))) r carry piece
+    answer_by (ltb (length carry) 64) (r.stopped || ltb 63 r.carried) (begun r.carried (front (take r.carried carry ++ piece))) r carry piece
 
-refuses-by : (r : Reader) (carry piece : List ℕ) (o : Outcome) → Way r carry piece o → (o.answer ≡ 0 → ⊥)
+refuses_by : (r : Reader) (carry piece : List ℕ) (o : Outcome) → Way r carry piece o → (o.answer ≡ 0 → ⊥)
     → o ≡ refusal o.answer (cond (eqb o.answer 20) stopped_reader r) carry
 unfolding kept
-refuses-by r carry piece _ small h = refl
-refuses-by r carry piece _ still h = refl
-refuses-by r carry piece _ (keeps fit e) h = absurd (h refl)
-refuses-by r carry piece _ (hands fit n e more) h =
+refuses_by r carry piece _ small h = refl
+refuses_by r carry piece _ still h = refl
+refuses_by r carry piece _ (keeps fit e) h = absurd (h refl)
+refuses_by r carry piece _ (hands fit n e more) h =
     absurd (h (either (λ (o : Outcome). o.answer ≡ 0) r.carried carry piece n (λ e. refl) (λ e. refl)))
-refuses-by r carry piece _ stops h = refl
+refuses_by r carry piece _ stops h = refl
 
 pub refuses : Refused
 refuses r carry piece n is other =
-    refuses-by r carry piece (next_of r carry piece) (way r carry piece) (λ zero. other (sym is ∙ zero))
+    refuses_by r carry piece (next_of r carry piece) (way r carry piece) (λ zero. other (sym is ∙ zero))
     ∙ ap (λ (m : ℕ). refusal m (cond (eqb m 20) stopped_reader r) carry) is
 
 small_by : (r : Reader) (carry piece : List ℕ) (o : Outcome) → Way r carry piece o → r.carried ≤ 63 → Small o
@@ -111,7 +111,7 @@ unfolding kept
 small_by r carry piece _ small h = record { carried = h; size = omega arith; used = omega arith }
 small_by r carry piece _ still h = record { carried = h; size = omega arith; used = omega arith }
 small_by r carry piece _ (keeps fit e) h =
-    let short = unended-short (take r.carried carry ++ piece) e in
+    let short = unended_short (take r.carried carry ++ piece) e in
     let len = seen_length r.carried carry piece (omega (arith, fit.room)) in
     record { carried = omega arith; size = omega arith; used = omega arith }
 small_by r carry piece _ (hands fit n e more) h =
@@ -121,8 +121,8 @@ small_by r carry piece _ (hands fit n e more) h =
     (λ z. record { carried = omega arith; size = w.most; used = omega (arith, w.most) })
 small_by r carry piece _ stops h = record { carried = omega arith; size = omega arith; used = omega arith }
 
-pub small-numbers : SmallNumbers
-small-numbers r carry piece h = small_by r carry piece (next_of r carry piece) (way r carry piece) h
+pub small_numbers : SmallNumbers
+small_numbers r carry piece h = small_by r carry piece (next_of r carry piece) (way r carry piece) h
 
 -- ---- bytes used
 
@@ -145,9 +145,9 @@ uses r carry piece = uses_by r carry piece (next_of r carry piece) (way r carry 
 -- ---- the loop over a piece
 
 module _ (piece : List ℕ) where
-  same-found : (b : Bool) (o : Outcome) {x y : Fed} → eqb o.lies 0 ≡ b → (b ≡ false → x ≡ y) → found_then o piece x ≡ found_then o piece y
-  same-found true o e rest = rw e
-  same-found false o e rest = rw (rest refl)
+  same_found : (b : Bool) (o : Outcome) {x y : Fed} → eqb o.lies 0 ≡ b → (b ≡ false → x ≡ y) → found_then o piece x ≡ found_then o piece y
+  same_found true o e rest = rw e
+  same_found false o e rest = rw (rest refl)
 
 pub bound : (j k : ℕ) (r : Reader) (carry piece : List ℕ) → length piece < j → length piece < k
     → feed_within j r carry piece ≡ feed_within k r carry piece
@@ -157,7 +157,7 @@ bound (suc j) zero r carry piece hj hk = absurd (omega arith)
 bound (suc j) (suc k) r carry piece hj hk =
     let o = next_of r carry piece in
     let u = uses r carry piece in
-    same-found piece (eqb o.lies 0) o refl
+    same_found piece (eqb o.lies 0) o refl
     (λ found.
     let some = u.some (eqb-false o.lies 0 found) in
     let shorter : length (drop o.used piece) < length piece = rw length-drop (omega (arith, u.within)) in
@@ -189,18 +189,18 @@ record_by r carry piece _ (hands fit n e more) h =
     (λ z. rw (completed r.carried carry piece (omega (arith, fit.room, fit.few)) e more) w)
 record_by r carry piece _ stops h = absurd (h refl)
 
-every-found : (b : Bool) (o : Outcome) (piece : List ℕ) (rest : Fed) → eqb o.lies 0 ≡ b
+every_found : (b : Bool) (o : Outcome) (piece : List ℕ) (rest : Fed) → eqb o.lies 0 ≡ b
     → (b ≡ false → is_record (record_in o.lies o.size o.carry piece) ≡ true) → every? is_record rest.records ≡ true
     → every? is_record (found_then o piece rest).records ≡ true
-every-found true o piece rest e is h = rw e
-every-found false o piece rest e is h = rw (e, is refl, h)
+every_found true o piece rest e is h = rw e
+every_found false o piece rest e is h = rw (e, is refl, h)
 
 every_fed : (k : ℕ) (r : Reader) (carry piece : List ℕ) → every? is_record (feed_within k r carry piece).records ≡ true
 unfolding feed_within
 every_fed zero r carry piece = refl
 every_fed (suc k) r carry piece =
     let o = next_of r carry piece in
-    every-found (eqb o.lies 0) o piece (feed_within k o.reader o.carry (drop o.used piece)) refl (λ found. record_by r carry piece o (way r carry piece) (eqb-false o.lies 0 found))
+    every_found (eqb o.lies 0) o piece (feed_within k o.reader o.carry (drop o.used piece)) refl (λ found. record_by r carry piece o (way r carry piece) (eqb-false o.lies 0 found))
     (every_fed k o.reader o.carry (drop o.used piece))
 
 every_cons : (a b d : Bool) → (a && b) ≡ true → (b ≡ true → d ≡ true) → (a && d) ≡ true
@@ -211,8 +211,8 @@ every_append : (xs ys : List (List ℕ)) → every? is_record xs ≡ true → ev
 every_append [] ys h k = k
 every_append (x ∷ xs) ys h k = every_cons (is_record x) (every? is_record xs) (every? is_record (xs ++ ys)) h (λ h. every_append xs ys h k)
 
-pub whole-records : WholeRecords
+pub whole_records : WholeRecords
 unfolding run feed
-whole-records r carry [] = refl
-whole-records r carry (p ∷ ps) =
-    every_append (feed r carry p).records _ (every_fed (suc (length p)) r carry p) (whole-records (feed r carry p).reader (feed r carry p).carry ps)
+whole_records r carry [] = refl
+whole_records r carry (p ∷ ps) =
+    every_append (feed r carry p).records _ (every_fed (suc (length p)) r carry p) (whole_records (feed r carry p).reader (feed r carry p).carry ps)

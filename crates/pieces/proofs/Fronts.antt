@@ -89,18 +89,18 @@ module _ (s : List ℕ) where
   going_more (missing may there) two = leb-false (length_field s) (length s) there
 
   -- a record that has not ended is shorter than the longest
-  pub unended-short : front s ≡ Unended → length s ≤ 63
+  pub unended_short : front s ≡ Unended → length s ≤ 63
   unfolding front
-  unended-short e = going_short (tests_unended _ _ _ (length_field s) e)
+  unended_short e = going_short (tests_unended _ _ _ (length_field s) e)
 
   -- and shorter than it says
   pub unended_more : front s ≡ Unended → 2 ≤ length s → length s < length_field s
   unfolding front
   unended_more e two = going_more (tests_unended _ _ _ (length_field s) e) two
 
-  pub impossible-is : front s ≡ Impossible → (2 ≤ length s) × (possible (length_field s) ≡ false)
+  pub impossible_is : front s ≡ Impossible → (2 ≤ length s) × (possible (length_field s) ≡ false)
   unfolding front
-  impossible-is e =
+  impossible_is e =
       let t = tests_impossible (ltb (length s) 2) (possible (length_field s)) (leb (length_field s) (length s)) (length_field s) e in
       (ltb-false (length s) 2 t.0, t.1)
 
@@ -128,7 +128,7 @@ module _ (s t : List ℕ) where
 
   pub impossible-append : front s ≡ Impossible → front (s ++ t) ≡ Impossible
   impossible-append e =
-      let i = impossible-is s e in
+      let i = impossible_is s e in
       impossible_so (s ++ t) (omega (arith, i.0, length-append s t)) (ap possible (same_length_field i.0) ∙ i.1)
 
 -- ---- with some bytes carried
@@ -141,12 +141,12 @@ begun_never : (more : Bool) (n : ℕ) → cond more (Whole n) Impossible ≡ Une
 begun_never true n e = let z : ◌≡◌ {A = ℕ} 0 1 = cc in omega arith
 begun_never false n e = let z : ◌≡◌ {A = ℕ} 0 1 = cc in omega arith
 
-pub begun-unended : (c : ℕ) (f : Front) → begun c f ≡ Unended → f ≡ Unended
-begun-unended c Unended e = refl
-begun-unended c (Whole n) e = absurd (begun_never (ltb c n) n e)
-begun-unended c Impossible e = e
+pub begun_unended : (c : ℕ) (f : Front) → begun c f ≡ Unended → f ≡ Unended
+begun_unended c Unended e = refl
+begun_unended c (Whole n) e = absurd (begun_never (ltb c n) n e)
+begun_unended c Impossible e = e
 
-pub begun-whole : (c : ℕ) (f : Front) {m : ℕ} → begun c f ≡ Whole m → (f ≡ Whole m) × (c < m)
-begun-whole c Unended e = absurd (let z : ◌≡◌ {A = ℕ} 0 1 = cc in omega arith)
-begun-whole c (Whole n) {m} e = let t = begun_tests (ltb c n) n m e in (ap Whole t.1, omega (arith, ltb-true c n t.0, t.1))
-begun-whole c Impossible e = absurd (let z : ◌≡◌ {A = ℕ} 0 1 = cc in omega arith)
+pub begun_whole : (c : ℕ) (f : Front) {m : ℕ} → begun c f ≡ Whole m → (f ≡ Whole m) × (c < m)
+begun_whole c Unended e = absurd (let z : ◌≡◌ {A = ℕ} 0 1 = cc in omega arith)
+begun_whole c (Whole n) {m} e = let t = begun_tests (ltb c n) n m e in (ap Whole t.1, omega (arith, ltb-true c n t.0, t.1))
+begun_whole c Impossible e = absurd (let z : ◌≡◌ {A = ℕ} 0 1 = cc in omega arith)

@@ -44,24 +44,24 @@ module _ (s : List ℕ) where
   unfolding holds
   one_more = bound (suc (length s)) (length s) s (omega arith) (omega arith)
 
-  pub holds-unended : front s ≡ Unended → holds s ≡ left s
+  pub holds_unended : front s ≡ Unended → holds s ≡ left s
   unfolding holds_within
-  holds-unended e = sym one_more ∙ rw e
+  holds_unended e = sym one_more ∙ rw e
 
-  pub holds-impossible : front s ≡ Impossible → holds s ≡ stop
+  pub holds_impossible : front s ≡ Impossible → holds s ≡ stop
   unfolding holds_within
-  holds-impossible e = sym one_more ∙ rw e
+  holds_impossible e = sym one_more ∙ rw e
 
-  rest-holds : {n : ℕ} → front s ≡ Whole n → holds_within (length s) (drop n s) ≡ holds (drop n s)
+  rest_holds : {n : ℕ} → front s ≡ Whole n → holds_within (length s) (drop n s) ≡ holds (drop n s)
   unfolding holds
-  rest-holds {n} e = bound (length s) (length (drop n s)) (drop n s) (shorter s e (omega arith)) (omega arith)
+  rest_holds {n} e = bound (length s) (length (drop n s)) (drop n s) (shorter s e (omega arith)) (omega arith)
 
-  pub holds-whole : (n : ℕ) → front s ≡ Whole n → holds s ≡ after (take n s) (holds (drop n s))
+  pub holds_whole : (n : ℕ) → front s ≡ Whole n → holds s ≡ after (take n s) (holds (drop n s))
   unfolding holds_within
-  holds-whole n e = sym one_more ∙ rw (e, rest-holds e)
+  holds_whole n e = sym one_more ∙ rw (e, rest_holds e)
 
   pub by_front_lem : Holds s
-  by_front_lem = record { unended = holds-unended; whole = holds-whole; impossible = holds-impossible }
+  by_front_lem = record { unended = holds_unended; whole = holds_whole; impossible = holds_impossible }
 
 -- ---- one part, and then another
 
@@ -79,22 +79,22 @@ after_more true r h g = refl
 after_more false r h g = refl
 
 module _ (t : List ℕ) where
-  append-step : (s : List ℕ) → ((n : ℕ) → front s ≡ Whole n → holds (drop n s ++ t) ≡ then_more (holds (drop n s)) t)
+  append_step : (s : List ℕ) → ((n : ℕ) → front s ≡ Whole n → holds (drop n s ++ t) ≡ then_more (holds (drop n s)) t)
       → (f : Front) → front s ≡ f → holds (s ++ t) ≡ then_more (holds s) t
-  append-step s rest Unended e = rw (holds-unended s e)
-  append-step s rest (Whole n) e =
+  append_step s rest Unended e = rw (holds_unended s e)
+  append_step s rest (Whole n) e =
       let w = whole_is s e in
-      holds-whole (s ++ t) n (whole_append s t e)
-      ∙ rw (take-append-le n s t w.there, drop-append-le n s t w.there, rest n e, holds-whole s n e)
+      holds_whole (s ++ t) n (whole_append s t e)
+      ∙ rw (take-append-le n s t w.there, drop-append-le n s t w.there, rest n e, holds_whole s n e)
       (sym (after_more (holds (drop n s)).stopped (take n s) (holds (drop n s)) (holds ((holds (drop n s)).left ++ t))))
-  append-step s rest Impossible e = holds-impossible (s ++ t) (impossible-append s t e) ∙ rw (holds-impossible s e)
+  append_step s rest Impossible e = holds_impossible (s ++ t) (impossible-append s t e) ∙ rw (holds_impossible s e)
 
-  append-within : (k : ℕ) (s : List ℕ) → length s ≤ k → holds (s ++ t) ≡ then_more (holds s) t
-  append-within zero s h = append-step s (λ n e. absurd (omega (arith, (whole_is s e).least, (whole_is s e).there))) (front s) refl
-  append-within (suc k) s h = append-step s (λ n e. append-within k (drop n s) (shorter s e h)) (front s) refl
+  append_within : (k : ℕ) (s : List ℕ) → length s ≤ k → holds (s ++ t) ≡ then_more (holds s) t
+  append_within zero s h = append_step s (λ n e. absurd (omega (arith, (whole_is s e).least, (whole_is s e).there))) (front s) refl
+  append_within (suc k) s h = append_step s (λ n e. append_within k (drop n s) (shorter s e h)) (front s) refl
 
 pub holds-append : (s t : List ℕ) → holds (s ++ t) ≡ then_more (holds s) t
-holds-append s t = append-within t (length s) s (omega arith)
+holds-append s t = append_within t (length s) s (omega arith)
 
 -- ---- the records and what follows them are the input
 
@@ -113,10 +113,10 @@ follows_after s n rest e all = rw (e, append_assoc, all) (take-append-drop n s)
 follows_step : (s : List ℕ) → ((n : ℕ) → front s ≡ Whole n → Follows (drop n s)) → (f : Front) → front s ≡ f → Follows s
 unfolding joined
 follows_step s more Unended e =
-    let h = holds-unended s e in
+    let h = holds_unended s e in
     record { rest = s; all = rw h; kept = λ so. rw h; bad = λ so. absurd (let z : true ≡ false = sym so ∙ ap (λ (x : Held). x.stopped) h in let y : ◌≡◌ {A = ℕ} 0 1 = cc in omega arith) }
 follows_step s more (Whole n) e =
-    let h = holds-whole s n e in
+    let h = holds_whole s n e in
     let f = more n e in
     let same : (holds s).stopped ≡ (holds (drop n s)).stopped = ap (λ (x : Held). x.stopped) h in
     record {
@@ -126,7 +126,7 @@ follows_step s more (Whole n) e =
       bad = λ so. f.bad (sym same ∙ so);
     }
 follows_step s more Impossible e =
-    let h = holds-impossible s e in
+    let h = holds_impossible s e in
     record {
       rest = s;
       all = rw h;

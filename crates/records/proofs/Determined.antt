@@ -25,17 +25,17 @@ turned f g same x r₁ r₂ e₁ e₂ = sym (same r₁) ∙ ap g (e₁ ∙ sym e
 pub equation : {A : Type 0} → Determines {A = A} {B = A} (λ r. r)
 equation = turned (λ r. r) (λ r. r) (λ r. refl)
 
-event-back : Read Event → EventRead
-event-back (taken e) = EventRead.Is e
-event-back (refused n place) = cond (eqb n 2) EventRead.BadLength (cond (eqb n 3) EventRead.UnknownKind (cond (eqb n 9) EventRead.Retired (EventRead.BadBody place)))
+event_back : Read Event → EventRead
+event_back (taken e) = EventRead.Is e
+event_back (refused n place) = cond (eqb n 2) EventRead.BadLength (cond (eqb n 3) EventRead.UnknownKind (cond (eqb n 9) EventRead.Retired (EventRead.BadBody place)))
 
-event-same : (r : EventRead) → event-back (as_event_read r) ≡ r
-unfolding event-back
-event-same (EventRead.Is e) = refl
-event-same EventRead.BadLength = refl
-event-same EventRead.UnknownKind = refl
-event-same EventRead.Retired = refl
-event-same (EventRead.BadBody place) = refl
+event_same : (r : EventRead) → event_back (as_event_read r) ≡ r
+unfolding event_back
+event_same (EventRead.Is e) = refl
+event_same EventRead.BadLength = refl
+event_same EventRead.UnknownKind = refl
+event_same EventRead.Retired = refl
+event_same (EventRead.BadBody place) = refl
 
 message_back : Read Message → MessageRead
 message_back (taken m) = MessageRead.Is m
@@ -76,14 +76,14 @@ into_determined = turned wrote_into (λ w. (wrote_back w.0, w.1)) (λ w. ap (λ 
 
 -- ---- the functions
 
-pub read-event : (s : List ℕ) (r₁ r₂ : EventRead) → as_event_read r₁ ≡ read events s → as_event_read r₂ ≡ read events s → r₁ ≡ r₂
-read-event s = turned as_event_read event-back event-same (read events s)
+pub read_event : (s : List ℕ) (r₁ r₂ : EventRead) → as_event_read r₁ ≡ read events s → as_event_read r₂ ≡ read events s → r₁ ≡ r₂
+read_event s = turned as_event_read event_back event_same (read events s)
 
 pub read_message : (s : List ℕ) (r₁ r₂ : MessageRead) → as_message_read r₁ ≡ read messages s → as_message_read r₂ ≡ read messages s → r₁ ≡ r₂
 read_message s = turned as_message_read message_back message_same (read messages s)
 
-pub write-event : (e : Event) (buffer : List ℕ) (w₁ w₂ : Written × List ℕ) → wrote_into w₁ ≡ write events e buffer → wrote_into w₂ ≡ write events e buffer → w₁ ≡ w₂
-write-event e buffer = into_determined (write events e buffer)
+pub write_event : (e : Event) (buffer : List ℕ) (w₁ w₂ : Written × List ℕ) → wrote_into w₁ ≡ write events e buffer → wrote_into w₂ ≡ write events e buffer → w₁ ≡ w₂
+write_event e buffer = into_determined (write events e buffer)
 
 pub write_message : (m : Message) (buffer : List ℕ) (w₁ w₂ : Written × List ℕ) → wrote_into w₁ ≡ write messages m buffer → wrote_into w₂ ≡ write messages m buffer → w₁ ≡ w₂
 write_message m buffer = into_determined (write messages m buffer)

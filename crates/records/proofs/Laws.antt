@@ -39,10 +39,10 @@ pub length-flat_bytes : (f : Flat) → length (flat_bytes f) ≡ flat_size f
 unfolding flat_bytes flat_size
 length-flat_bytes f = simp (length-append, length-bytes, length-body_bytes) (omega arith)
 
-pub stored-none : {l : List ℕ} {at : ℕ} → Stored l at [] at l
-stored-none = record { end = omega arith; now = refl }
+pub stored_none : {l : List ℕ} {at : ℕ} → Stored l at [] at l
+stored_none = record { end = omega arith; now = refl }
 
-pub stored-then : {old mid new xs ys : List ℕ} {at mid_at next : ℕ}
+pub stored_then : {old mid new xs ys : List ℕ} {at mid_at next : ℕ}
     → Stored old at xs mid_at mid → Stored mid mid_at ys next new → Stored old at (xs ++ ys) next new
-stored-then {old} {mid} {new} {xs} {ys} {at} p q =
+stored_then {old} {mid} {new} {xs} {ys} {at} p q =
     record { end = rw length-append (omega arith); now = rw (sets-append xs old ys at, ← p.now, ← p.end) q.now }

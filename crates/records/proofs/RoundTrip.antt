@@ -92,34 +92,34 @@ head_at (y ∷ s) zero x rest e = (cc, cc)
 head_at (y ∷ s) (suc at) x rest e = head_at s at x rest e
 
 -- the bytes of a number stand for it
-number-bytes : (w v at : ℕ) (s rest : List ℕ) → v < 256 ^ w → drop at s ≡ bytes w v ++ rest → number w s at ≡ v
+number_bytes : (w v at : ℕ) (s rest : List ℕ) → v < 256 ^ w → drop at s ≡ bytes w v ++ rest → number w s at ≡ v
 unfolding number bytes
-number-bytes zero v at s rest h e = omega arith
-number-bytes (suc w) v at s rest h e =
+number_bytes zero v at s rest h e = omega arith
+number_bytes (suc w) v at s rest h e =
     let p : (get_or s at 0 ≡ v % 256) × (drop (suc at) s ≡ bytes w (v / 256) ++ rest) = head_at s at (v % 256) _ e in
-    let q : number w s (suc at) ≡ v / 256 = number-bytes w (v / 256) (suc at) s rest (omega (arith, pow-suc 256 w)) p.1 in
+    let q : number w s (suc at) ≡ v / 256 = number_bytes w (v / 256) (suc at) s rest (omega (arith, pow-suc 256 w)) p.1 in
     omega (arith, p.0, q)
 
 -- the number that bytes stand for has those bytes
-bytes-number : (w at : ℕ) (s : List ℕ) → ((i : ℕ) → get_or s i 0 < 256) → at + w ≤ length s → bytes w (number w s at) ≡ take w (drop at s)
+bytes_number : (w at : ℕ) (s : List ℕ) → ((i : ℕ) → get_or s i 0 < 256) → at + w ≤ length s → bytes w (number w s at) ≡ take w (drop at s)
 unfolding number bytes
-bytes-number zero at s small h = refl
-bytes-number (suc w) at s small h =
+bytes_number zero at s small h = refl
+bytes_number (suc w) at s small h =
     let low : (get_or s at 0 + 256 * number w s (suc at)) % 256 ≡ get_or s at 0 = omega (arith, small at) in
     let high : (get_or s at 0 + 256 * number w s (suc at)) / 256 ≡ number w s (suc at) = omega (arith, small at) in
-    rw (low, high, drop-cons s at 0 (omega arith), bytes-number w (suc at) s small (omega arith))
+    rw (low, high, drop-cons s at 0 (omega arith), bytes_number w (suc at) s small (omega arith))
 
 -- ---- bodies
 
 -- the bytes of values hold those values
-values-body : (ls : List Letter) (vs : Values ls) (s : List ℕ) (at : ℕ) → all_fit ls vs ≡ true → drop at s ≡ body_bytes ls vs → values_at ls s at ≡ is vs
+values_body : (ls : List Letter) (vs : Values ls) (s : List ℕ) (at : ℕ) → all_fit ls vs ≡ true → drop at s ≡ body_bytes ls vs → values_at ls s at ≡ is vs
 unfolding values_at value_at all_fit body_bytes
-values-body [] vs s at fit e = refl
-values-body (l ∷ ls) vs s at fit e =
+values_body [] vs s at fit e = refl
+values_body (l ∷ ls) vs s at fit e =
     let f : (fits l vs.0 ≡ true) × (all_fit ls vs.1 ≡ true) = both _ _ fit in
-    let n : number (width l) s at ≡ vs.0 = number-bytes (width l) vs.0 at s _ (below l vs.0 f.0) e in
+    let n : number (width l) s at ≡ vs.0 = number_bytes (width l) vs.0 at s _ (below l vs.0 f.0) e in
     let rest : drop (at + width l) s ≡ body_bytes ls vs.1 = sym (drop-drop (width l) at s) ∙ ap (drop (width l)) e ∙ drop_at (bytes (width l) vs.0) _ (width l) (length-bytes (width l) vs.0) in
-    rw (n, f.0, values-body ls vs.1 s (at + width l) f.1 rest)
+    rw (n, f.0, values_body ls vs.1 s (at + width l) f.1 rest)
 
 -- a value that was taken, and then the others
 pub one_more : {A B : Type 0} (b : Bool) (x y : A) (p : ℕ) (o : Found B) (z : B) → and_then (cond b (is x) (bad_at p)) (λ v. and_then {B = A × B} o (λ w. is (v, w))) ≡ is (y, z) → (b ≡ true) × ((x ≡ y) × (o ≡ is z))
@@ -128,14 +128,14 @@ one_more true x y p (bad_at n) z e = (refl, (cc, cc))
 one_more false x y p o z e = (cc, (cc, cc))
 
 -- the values that bytes hold have those bytes
-body-values : (ls : List Letter) (vs : Values ls) (s : List ℕ) (at : ℕ) → ((i : ℕ) → get_or s i 0 < 256) → at + size ls ≤ length s → values_at ls s at ≡ is vs → (body_bytes ls vs ≡ take (size ls) (drop at s)) × (all_fit ls vs ≡ true)
+body_values : (ls : List Letter) (vs : Values ls) (s : List ℕ) (at : ℕ) → ((i : ℕ) → get_or s i 0 < 256) → at + size ls ≤ length s → values_at ls s at ≡ is vs → (body_bytes ls vs ≡ take (size ls) (drop at s)) × (all_fit ls vs ≡ true)
 unfolding values_at value_at all_fit body_bytes
-body-values [] vs s at small h e = (refl, refl)
-body-values (l ∷ ls) vs s at small h e =
+body_values [] vs s at small h e = (refl, refl)
+body_values (l ∷ ls) vs s at small h e =
     let p : (fits l (number (width l) s at) ≡ true) × ((number (width l) s at ≡ vs.0) × (values_at ls s (at + width l) ≡ is vs.1)) = one_more _ _ _ _ _ _ e in
     let fit : fits l vs.0 ≡ true = rw p.1.0 at p.0 in
-    let first : bytes (width l) vs.0 ≡ take (width l) (drop at s) = rw p.1.0 at (bytes-number (width l) at s small (omega arith)) in
-    let rest : (body_bytes ls vs.1 ≡ take (size ls) (drop (at + width l) s)) × (all_fit ls vs.1 ≡ true) = body-values ls vs.1 s (at + width l) small (omega arith) p.1.1 in
+    let first : bytes (width l) vs.0 ≡ take (width l) (drop at s) = rw p.1.0 at (bytes_number (width l) at s small (omega arith)) in
+    let rest : (body_bytes ls vs.1 ≡ take (size ls) (drop (at + width l) s)) × (all_fit ls vs.1 ≡ true) = body_values ls vs.1 s (at + width l) small (omega arith) p.1.1 in
     (rw (take-add, drop-drop, first, rest.0), rw (fit, rest.1))
 
 -- ---- tests on the way to an answer
@@ -198,35 +198,35 @@ module _ (t : Table) (lawful : Lawful t) where
       (chosen (eqb n (t.row_of j).number && eqb z (size_of t j)) j k (find t n z ks) e)
 
   -- and the size
-  pub found-size : (n z : ℕ) (ks : List t.Kind) (k : t.Kind) → find t n z ks ≡ some k → z ≡ size_of t k
-  found-size n z [] k e = cc
-  found-size n z (j ∷ ks) k e =
-      ⊎_elim (λ w. eqb-true z (size_of t j) (both (eqb n (t.row_of j).number) (eqb z (size_of t j)) w.0).1 ∙ ap (size_of t) w.1) (found-size n z ks k)
+  pub found_size : (n z : ℕ) (ks : List t.Kind) (k : t.Kind) → find t n z ks ≡ some k → z ≡ size_of t k
+  found_size n z [] k e = cc
+  found_size n z (j ∷ ks) k e =
+      ⊎_elim (λ w. eqb-true z (size_of t j) (both (eqb n (t.row_of j).number) (eqb z (size_of t j)) w.0).1 ∙ ap (size_of t) w.1) (found_size n z ks k)
       (chosen (eqb n (t.row_of j).number && eqb z (size_of t j)) j k (find t n z ks) e)
 
   -- a number that is known is a kind's
-  pub known-kind : (n : ℕ) (ks : List t.Kind) → known t n ks ≡ true → (k : t.Kind) × (n ≡ (t.row_of k).number)
-  known-kind n [] h = let z : ◌≡◌ {A = Bool} false true = h in let y : ◌≡◌ {A = ℕ} 0 1 = cc in absurd (omega arith)
-  known-kind n (j ∷ ks) h = by_test (eqb n (t.row_of j).number) (λ y. (j, eqb-true _ _ y)) (λ no. known-kind n ks (rw no at h))
+  pub known_kind : (n : ℕ) (ks : List t.Kind) → known t n ks ≡ true → (k : t.Kind) × (n ≡ (t.row_of k).number)
+  known_kind n [] h = let z : ◌≡◌ {A = Bool} false true = h in let y : ◌≡◌ {A = ℕ} 0 1 = cc in absurd (omega arith)
+  known_kind n (j ∷ ks) h = by_test (eqb n (t.row_of j).number) (λ y. (j, eqb-true _ _ y)) (λ no. known_kind n ks (rw no at h))
 
   -- a number that leads to a kind is known
-  pub found-known : (n z : ℕ) (ks : List t.Kind) (k : t.Kind) → find t n z ks ≡ some k → known t n ks ≡ true
-  found-known n z [] k e = cc
-  found-known n z (j ∷ ks) k e = by_test (eqb n (t.row_of j).number) (λ h. rw h) (λ h. rw h (found-known n z ks k (rw h at e)))
+  pub found_known : (n z : ℕ) (ks : List t.Kind) (k : t.Kind) → find t n z ks ≡ some k → known t n ks ≡ true
+  found_known n z [] k e = cc
+  found_known n z (j ∷ ks) k e = by_test (eqb n (t.row_of j).number) (λ h. rw h) (λ h. rw h (found_known n z ks k (rw h at e)))
 
   -- and a test of every kind holds of it
-  pub every-found : (p : t.Kind → Bool) (n z : ℕ) (ks : List t.Kind) (k : t.Kind) → find t n z ks ≡ some k → every p ks ≡ true → p k ≡ true
-  every-found p n z [] k e h = cc
-  every-found p n z (j ∷ ks) k e h =
-      ⊎_elim (λ w. rw w.1 at (both (p j) (every p ks) h).0) (λ w. every-found p n z ks k w (both (p j) (every p ks) h).1)
+  pub every_found : (p : t.Kind → Bool) (n z : ℕ) (ks : List t.Kind) (k : t.Kind) → find t n z ks ≡ some k → every p ks ≡ true → p k ≡ true
+  every_found p n z [] k e h = cc
+  every_found p n z (j ∷ ks) k e h =
+      ⊎_elim (λ w. rw w.1 at (both (p j) (every p ks) h).0) (λ w. every_found p n z ks k w (both (p j) (every p ks) h).1)
       (chosen (eqb n (t.row_of j).number && eqb z (size_of t j)) j k (find t n z ks) e)
 
   pub in_force : (k : t.Kind) → listed (t.row_of k).number t.retired ≡ false
-  in_force k = not-true _ (every-found _ (t.row_of k).number (size_of t k) t.kinds k (lawful.found k) lawful.current)
+  in_force k = not-true _ (every_found _ (t.row_of k).number (size_of t k) t.kinds k (lawful.found k) lawful.current)
 
   pub narrow : (k : t.Kind) → ((t.row_of k).number < 65536) × (4 + size (t.row_of k).letters < 65536)
   narrow k =
-      let w : (ltb (t.row_of k).number 65536 ≡ true) × (ltb (4 + size (t.row_of k).letters) 65536 ≡ true) = both _ _ (every-found _ (t.row_of k).number (size_of t k) t.kinds k (lawful.found k) lawful.narrow) in
+      let w : (ltb (t.row_of k).number 65536 ≡ true) × (ltb (4 + size (t.row_of k).letters) 65536 ≡ true) = both _ _ (every_found _ (t.row_of k).number (size_of t k) t.kinds k (lawful.found k) lawful.narrow) in
       (ltb-true _ _ w.0, ltb-true _ _ w.1)
 
   -- bytes that are the record of a kind with its values
@@ -241,12 +241,12 @@ module _ (t : Table) (lawful : Lawful t) where
   unfolding kind_in
   holds_read k vs s h agrees =
       let head : some (t.row_of k).number ≡ kind_in s = rw (le-leb 4 (length s) (omega arith), eq-eqb _ _ h.said, h.kind) in
-      sym (headed t s head (of_all t _ s (in_force k) (by_size t t.kinds k s refl (found-known _ _ t.kinds k (lawful.found k)) h.measured (lawful.found k) (good t k s h.measured (record { held = sym h.body }) agrees))))
+      sym (headed t s head (of_all t _ s (in_force k) (by_size t t.kinds k s refl (found_known _ _ t.kinds k (lawful.found k)) h.measured (lawful.found k) (good t k s h.measured (record { held = sym h.body }) agrees))))
 
   -- and nothing else is
-  read-holds : (v : t.Value) (s : List ℕ) → read t s ≡ taken v → (k : t.Kind) × ((vs : Values (t.row_of k).letters) × (Holds k vs s × ((t.agrees v ≡ true) × (t.value_of k vs ≡ v))))
+  read_holds : (v : t.Value) (s : List ℕ) → read t s ≡ taken v → (k : t.Kind) × ((vs : Values (t.row_of k).letters) × (Holds k vs s × ((t.agrees v ≡ true) × (t.value_of k vs ≡ v))))
   unfolding read read_as read_among read_body kind_in body_of
-  read-holds v s e =
+  read_holds v s e =
       let head : (n : ℕ) × ((kind_in s ≡ some n) × (read_as t n s ≡ taken v)) = took 2 (kind_in s) (λ n. read_as t n s) v e in
       let line : (k : t.Kind) × ((sized (find t head.0 (length s) t.kinds) ≡ is k) × (read_body t k s ≡ taken v)) = held (sized (find t head.0 (length s) t.kinds)) (λ k. read_body t k s) v (knew (known t head.0 t.kinds) (or_place (sized (find t head.0 (length s) t.kinds)) (λ k. read_body t k s)) v (used (listed head.0 t.retired) (read_among t t.kinds head.0 s) v head.1.1)) in
       let k : t.Kind = line.0 in
@@ -266,23 +266,23 @@ module _ (t : Table) (lawful : Lawful t) where
       let measured : length (flat_bytes (flat_of t k vs)) ≡ 4 + size (t.row_of k).letters = omega (arith, length-body_bytes (t.row_of k).letters vs) in
       record {
         measured = measured;
-        said = number-bytes 2 (4 + size (t.row_of k).letters) 0 _ (bytes 2 (t.row_of k).number ++ body_bytes (t.row_of k).letters vs) (narrow k).1 refl ∙ sym measured;
-        kind = number-bytes 2 (t.row_of k).number 2 _ (body_bytes (t.row_of k).letters vs) (narrow k).0 refl;
-        body = values-body (t.row_of k).letters vs _ 4 fit refl;
+        said = number_bytes 2 (4 + size (t.row_of k).letters) 0 _ (bytes 2 (t.row_of k).number ++ body_bytes (t.row_of k).letters vs) (narrow k).1 refl ∙ sym measured;
+        kind = number_bytes 2 (t.row_of k).number 2 _ (body_bytes (t.row_of k).letters vs) (narrow k).0 refl;
+        body = values_body (t.row_of k).letters vs _ 4 fit refl;
       }
 
   -- and nothing else is
-  holds-bytes : (k : t.Kind) (vs : Values (t.row_of k).letters) (s : List ℕ) → ((i : ℕ) → get_or s i 0 < 256) → Holds k vs s → (flat_bytes (flat_of t k vs) ≡ s) × (all_fit (t.row_of k).letters vs ≡ true)
+  holds_bytes : (k : t.Kind) (vs : Values (t.row_of k).letters) (s : List ℕ) → ((i : ℕ) → get_or s i 0 < 256) → Holds k vs s → (flat_bytes (flat_of t k vs) ≡ s) × (all_fit (t.row_of k).letters vs ≡ true)
   unfolding flat_bytes flat_size
-  holds-bytes k vs s small h =
-      let length : bytes 2 (4 + size (t.row_of k).letters) ≡ take 2 s = rw (h.said, h.measured) at (bytes-number 2 0 s small (omega arith)) in
-      let kind : bytes 2 (t.row_of k).number ≡ take 2 (drop 2 s) = rw h.kind at (bytes-number 2 2 s small (omega arith)) in
-      let body : (body_bytes (t.row_of k).letters vs ≡ take (size (t.row_of k).letters) (drop 4 s)) × (all_fit (t.row_of k).letters vs ≡ true) = body-values (t.row_of k).letters vs s 4 small (omega arith) h.body in
+  holds_bytes k vs s small h =
+      let length : bytes 2 (4 + size (t.row_of k).letters) ≡ take 2 s = rw (h.said, h.measured) at (bytes_number 2 0 s small (omega arith)) in
+      let kind : bytes 2 (t.row_of k).number ≡ take 2 (drop 2 s) = rw h.kind at (bytes_number 2 2 s small (omega arith)) in
+      let body : (body_bytes (t.row_of k).letters vs ≡ take (size (t.row_of k).letters) (drop 4 s)) × (all_fit (t.row_of k).letters vs ≡ true) = body_values (t.row_of k).letters vs s 4 small (omega arith) h.body in
       (rw (length, kind, body.0) (cut s _ h.measured), body.1)
 
-  pub written-reads-back : WrittenReadsBack t
+  pub written_reads_back : WrittenReadsBack t
   unfolding fine flat_fits
-  written-reads-back v ok =
+  written_reads_back v ok =
       let w : (all_fit (flat t v).letters (flat t v).values ≡ true) × (t.agrees v ≡ true) = both _ _ ok in
       rw (lawful.again v) at (holds_read (t.apart v).0 (t.apart v).1 (flat_bytes (flat t v)) (bytes_hold (t.apart v).0 (t.apart v).1 w.0) (rw (lawful.again v) w.1))
 
@@ -291,44 +291,44 @@ module _ (t : Table) (lawful : Lawful t) where
   writer_reads_back v n buffer after e =
       let w : (fine t v ≡ true) × ((leb (length (flat_bytes (flat t v))) (length buffer) ≡ true) × ((length (flat_bytes (flat t v)) ≡ n) × (sets buffer 0 (flat_bytes (flat t v)) ≡ after))) = roomy _ _ (flat_bytes (flat t v)) _ buffer after n e in
       let room : length (flat_bytes (flat t v)) ≤ length buffer = leb-true (length (flat_bytes (flat t v))) (length buffer) w.1.0 in
-      rw (← w.1.1.0, ← w.1.1.1, sets-eq (flat_bytes (flat t v)) buffer 0 (omega arith), take-append_seam) (written-reads-back v w.0)
+      rw (← w.1.1.0, ← w.1.1.1, sets-eq (flat_bytes (flat t v)) buffer 0 (omega arith), take-append_seam) (written_reads_back v w.0)
 
-  pub read-is-written-back : ReadIsWrittenBack t
+  pub read_is_written_back : ReadIsWrittenBack t
   unfolding fine flat_fits
-  read-is-written-back v s small e =
-      let w : (k : t.Kind) × ((vs : Values (t.row_of k).letters) × (Holds k vs s × ((t.agrees v ≡ true) × (t.value_of k vs ≡ v)))) = read-holds v s e in
-      let b : (flat_bytes (flat_of t w.0 w.1.0) ≡ s) × (all_fit (t.row_of w.0).letters w.1.0 ≡ true) = holds-bytes w.0 w.1.0 s small w.1.1.0 in
+  read_is_written_back v s small e =
+      let w : (k : t.Kind) × ((vs : Values (t.row_of k).letters) × (Holds k vs s × ((t.agrees v ≡ true) × (t.value_of k vs ≡ v)))) = read_holds v s e in
+      let b : (flat_bytes (flat_of t w.0 w.1.0) ≡ s) × (all_fit (t.row_of w.0).letters w.1.0 ≡ true) = holds_bytes w.0 w.1.0 s small w.1.1.0 in
       let same : ◌≡◌ {A = (k : t.Kind) × Values (t.row_of k).letters} (t.apart v) (w.0, w.1.0) = rw w.1.1.1.1 at (lawful.together w.0 w.1.0 b.1) in
       (ap (λ kv. flat_bytes (flat_of t kv.0 kv.1)) same ∙ b.0, rw (ap (λ kv. flat_fits (flat_of t kv.0 kv.1)) same ∙ b.1, w.1.1.1.0))
 
-  pub read-writes-back : ReadWritesBack t
+  pub read_writes_back : ReadWritesBack t
   unfolding write written
-  read-writes-back v s buffer small room e =
-      let w : (flat_bytes (flat t v) ≡ s) × (fine t v ≡ true) = read-is-written-back v s small e in
+  read_writes_back v s buffer small room e =
+      let w : (flat_bytes (flat t v) ≡ s) × (fine t v ≡ true) = read_is_written_back v s small e in
       rw (w.1, w.0, le-leb _ _ room, sets-eq s buffer 0 (omega arith), zero-add)
 
 -- ---- the two tables
 
-pub event-written-reads-back : WrittenReadsBack events
-event-written-reads-back = written-reads-back events event_lawful
+pub event_written_reads_back : WrittenReadsBack events
+event_written_reads_back = written_reads_back events event_lawful
 
 pub event_writer_reads_back : WriterReadsBack events
 event_writer_reads_back = writer_reads_back events event_lawful
 
-pub event-read-is-written-back : ReadIsWrittenBack events
-event-read-is-written-back = read-is-written-back events event_lawful
+pub event_read_is_written_back : ReadIsWrittenBack events
+event_read_is_written_back = read_is_written_back events event_lawful
 
-pub event-read-writes-back : ReadWritesBack events
-event-read-writes-back = read-writes-back events event_lawful
+pub event_read_writes_back : ReadWritesBack events
+event_read_writes_back = read_writes_back events event_lawful
 
 pub message_written_reads_back : WrittenReadsBack messages
-message_written_reads_back = written-reads-back messages message_lawful
+message_written_reads_back = written_reads_back messages message_lawful
 
 pub message_writer_reads_back : WriterReadsBack messages
 message_writer_reads_back = writer_reads_back messages message_lawful
 
 pub message_read_is_written_back : ReadIsWrittenBack messages
-message_read_is_written_back = read-is-written-back messages message_lawful
+message_read_is_written_back = read_is_written_back messages message_lawful
 
 pub message_read_writes_back : ReadWritesBack messages
-message_read_writes_back = read-writes-back messages message_lawful
+message_read_writes_back = read_writes_back messages message_lawful

@@ -23,18 +23,18 @@ carried_fit (suc m) other e = e
 -- ---- read where they may stand
 
 module _ (bytes : List ℕ) (at : ℕ) where
-  pub none-carried : {v : ℕ} → is v ≡ slots_at bytes at → length bytes ≡ at → v ≡ 0
+  pub none_carried : {v : ℕ} → is v ≡ slots_at bytes at → length bytes ≡ at → v ≡ 0
   unfolding slots_at
-  none-carried {v} e w = let z : ◌≡◌ {A = Found ℕ} (is v) (is 0) = rw (eq-eqb _ _ w) at e in cc
+  none_carried {v} e w = let z : ◌≡◌ {A = Found ℕ} (is v) (is 0) = rw (eq-eqb _ _ w) at e in cc
 
   pub none_bad : {p : ℕ} → bad_at p ≡ slots_at bytes at → length bytes ≡ at → ⊥
   unfolding slots_at
   none_bad {p} e w = let z : ◌≡◌ {A = Found ℕ} (bad_at p) (is 0) = rw (eq-eqb _ _ w) at e in let y : ◌≡◌ {A = ℕ} 0 1 = cc in omega arith
 
   -- where the body goes on
-  pub carried-at : {x : Found ℕ} → x ≡ slots_at bytes at → length bytes ≡ at + 1 → x ≡ value_at s bytes at
+  pub carried_at : {x : Found ℕ} → x ≡ slots_at bytes at → length bytes ≡ at + 1 → x ≡ value_at s bytes at
   unfolding slots_at
-  carried-at {x} e w = let other : length bytes ≡ at → ⊥ = λ z. omega arith in rw (ne_eqb _ _ other) at e
+  carried_at {x} e w = let other : length bytes ≡ at → ⊥ = λ z. omega arith in rw (ne_eqb _ _ other) at e
 
 -- ---- with slots: the bytes are those of the longer line
 

@@ -32,67 +32,67 @@ carried P zero h f = let z : ◌≡◌ {A = Bool} false true = h in let y : ◌�
 carried P (suc m) h f = f m
 
 -- a kind's number and size lead to it, and its values are taken apart as they were put together
-event-line : (k : EventKind) → (find events (event_row k).number (size_of events k) event_kinds ≡ some k) × ((vs : Values (event_row k).letters) → all_fit (event_row k).letters vs ≡ true → ◌≡◌ {A = (k : EventKind) × Values (event_row k).letters} (event_apart (event_of k vs)) (k, vs))
-event-line setup_request = (refl, λ vs fit. refl)
-event-line setup_request_slots = (refl, λ vs fit. carried (λ v. ◌≡◌ {A = (k : EventKind) × Values (event_row k).letters} (event_apart (Event.SetupRequest vs.0 vs.1.0 vs.1.1.0 v)) (setup_request_slots, (vs.0, (vs.1.0, (vs.1.1.0, (v, tt)))))) vs.1.1.1.0 (last_fits (a₁ ∷ d ∷ q ∷ []) s vs fit) (λ m. refl))
-event-line setup_response = (refl, λ vs fit. refl)
-event-line release_request = (refl, λ vs fit. refl)
-event-line tx_request = (refl, λ vs fit. refl)
-event-line d_call_proceeding = (refl, λ vs fit. refl)
-event-line d_alert = (refl, λ vs fit. refl)
-event-line d_connect = (refl, λ vs fit. refl)
-event-line d_connect_slots = (refl, λ vs fit. carried (λ v. ◌≡◌ {A = (k : EventKind) × Values (event_row k).letters} (event_apart (Event.DConnect vs.0 vs.1.0 vs.1.1.0 vs.1.1.1.0 v)) (d_connect_slots, (vs.0, (vs.1.0, (vs.1.1.0, (vs.1.1.1.0, (v, tt))))))) vs.1.1.1.1.0 (last_fits (i ∷ g ∷ d ∷ o ∷ []) s vs fit) (λ m. refl))
-event-line d_connect_acknowledge = (refl, λ vs fit. refl)
-event-line d_setup = (refl, λ vs fit. refl)
-event-line d_info = (refl, λ vs fit. refl)
-event-line d_info_slots = (refl, λ vs fit. carried (λ v. ◌≡◌ {A = (k : EventKind) × Values (event_row k).letters} (event_apart (Event.DInfo vs.0 vs.1.0 vs.1.1.0 vs.1.1.1.0 v)) (d_info_slots, (vs.0, (vs.1.0, (vs.1.1.0, (vs.1.1.1.0, (v, tt))))))) vs.1.1.1.1.0 (last_fits (i ∷ r ∷ o₁₆ ∷ d ∷ []) s vs fit) (λ m. refl))
-event-line d_tx_granted = (refl, λ vs fit. refl)
-event-line d_tx_ceased = (refl, λ vs fit. refl)
-event-line d_tx_interrupt = (refl, λ vs fit. refl)
-event-line d_tx_wait = (refl, λ vs fit. refl)
-event-line d_tx_continue = (refl, λ vs fit. refl)
-event-line d_call_restore = (refl, λ vs fit. refl)
-event-line d_disconnect = (refl, λ vs fit. refl)
-event-line d_release = (refl, λ vs fit. refl)
-event-line report_sent = (refl, λ vs fit. refl)
-event-line report_failed = (refl, λ vs fit. refl)
-event-line break = (refl, λ vs fit. refl)
-event-line resume = (refl, λ vs fit. refl)
-event-line expiry = (refl, λ vs fit. refl)
+event_line : (k : EventKind) → (find events (event_row k).number (size_of events k) event_kinds ≡ some k) × ((vs : Values (event_row k).letters) → all_fit (event_row k).letters vs ≡ true → ◌≡◌ {A = (k : EventKind) × Values (event_row k).letters} (event_apart (event_of k vs)) (k, vs))
+event_line setup_request = (refl, λ vs fit. refl)
+event_line setup_request_slots = (refl, λ vs fit. carried (λ v. ◌≡◌ {A = (k : EventKind) × Values (event_row k).letters} (event_apart (Event.SetupRequest vs.0 vs.1.0 vs.1.1.0 v)) (setup_request_slots, (vs.0, (vs.1.0, (vs.1.1.0, (v, tt)))))) vs.1.1.1.0 (last_fits (a₁ ∷ d ∷ q ∷ []) s vs fit) (λ m. refl))
+event_line setup_response = (refl, λ vs fit. refl)
+event_line release_request = (refl, λ vs fit. refl)
+event_line tx_request = (refl, λ vs fit. refl)
+event_line d_call_proceeding = (refl, λ vs fit. refl)
+event_line d_alert = (refl, λ vs fit. refl)
+event_line d_connect = (refl, λ vs fit. refl)
+event_line d_connect_slots = (refl, λ vs fit. carried (λ v. ◌≡◌ {A = (k : EventKind) × Values (event_row k).letters} (event_apart (Event.DConnect vs.0 vs.1.0 vs.1.1.0 vs.1.1.1.0 v)) (d_connect_slots, (vs.0, (vs.1.0, (vs.1.1.0, (vs.1.1.1.0, (v, tt))))))) vs.1.1.1.1.0 (last_fits (i ∷ g ∷ d ∷ o ∷ []) s vs fit) (λ m. refl))
+event_line d_connect_acknowledge = (refl, λ vs fit. refl)
+event_line d_setup = (refl, λ vs fit. refl)
+event_line d_info = (refl, λ vs fit. refl)
+event_line d_info_slots = (refl, λ vs fit. carried (λ v. ◌≡◌ {A = (k : EventKind) × Values (event_row k).letters} (event_apart (Event.DInfo vs.0 vs.1.0 vs.1.1.0 vs.1.1.1.0 v)) (d_info_slots, (vs.0, (vs.1.0, (vs.1.1.0, (vs.1.1.1.0, (v, tt))))))) vs.1.1.1.1.0 (last_fits (i ∷ r ∷ o₁₆ ∷ d ∷ []) s vs fit) (λ m. refl))
+event_line d_tx_granted = (refl, λ vs fit. refl)
+event_line d_tx_ceased = (refl, λ vs fit. refl)
+event_line d_tx_interrupt = (refl, λ vs fit. refl)
+event_line d_tx_wait = (refl, λ vs fit. refl)
+event_line d_tx_continue = (refl, λ vs fit. refl)
+event_line d_call_restore = (refl, λ vs fit. refl)
+event_line d_disconnect = (refl, λ vs fit. refl)
+event_line d_release = (refl, λ vs fit. refl)
+event_line report_sent = (refl, λ vs fit. refl)
+event_line report_failed = (refl, λ vs fit. refl)
+event_line break = (refl, λ vs fit. refl)
+event_line resume = (refl, λ vs fit. refl)
+event_line expiry = (refl, λ vs fit. refl)
 
-pub event-found : (k : EventKind) → find events (event_row k).number (size_of events k) event_kinds ≡ some k
-event-found k = (event-line k).0
+pub event_found : (k : EventKind) → find events (event_row k).number (size_of events k) event_kinds ≡ some k
+event_found k = (event_line k).0
 
-pub event-again : (e : Event) → event_of (event_apart e).0 (event_apart e).1 ≡ e
-event-again (Event.SetupRequest address mode ask zero) = refl
-event-again (Event.SetupRequest address mode ask (suc m)) = refl
-event-again Event.SetupResponse = refl
-event-again Event.ReleaseRequest = refl
-event-again (Event.TxRequest go) = refl
-event-again (Event.DCallProceeding id) = refl
-event-again (Event.DAlert id) = refl
-event-again (Event.DConnect id grant mode code zero) = refl
-event-again (Event.DConnect id grant mode code (suc m)) = refl
-event-again (Event.DConnectAcknowledge id grant code) = refl
-event-again (Event.DSetup id address mode) = refl
-event-again (Event.DInfo id reset code mode zero) = refl
-event-again (Event.DInfo id reset code mode (suc m)) = refl
-event-again (Event.DTxGranted id grant) = refl
-event-again (Event.DTxCeased id) = refl
-event-again (Event.DTxInterrupt id grant) = refl
-event-again (Event.DTxWait id) = refl
-event-again (Event.DTxContinue id go) = refl
-event-again (Event.DCallRestore id grant reset code) = refl
-event-again (Event.DDisconnect id) = refl
-event-again (Event.DRelease id) = refl
-event-again Event.ReportSent = refl
-event-again Event.ReportFailed = refl
-event-again Event.Break = refl
-event-again Event.Resume = refl
-event-again (Event.Expiry timer) = refl
+pub event_again : (e : Event) → event_of (event_apart e).0 (event_apart e).1 ≡ e
+event_again (Event.SetupRequest address mode ask zero) = refl
+event_again (Event.SetupRequest address mode ask (suc m)) = refl
+event_again Event.SetupResponse = refl
+event_again Event.ReleaseRequest = refl
+event_again (Event.TxRequest go) = refl
+event_again (Event.DCallProceeding id) = refl
+event_again (Event.DAlert id) = refl
+event_again (Event.DConnect id grant mode code zero) = refl
+event_again (Event.DConnect id grant mode code (suc m)) = refl
+event_again (Event.DConnectAcknowledge id grant code) = refl
+event_again (Event.DSetup id address mode) = refl
+event_again (Event.DInfo id reset code mode zero) = refl
+event_again (Event.DInfo id reset code mode (suc m)) = refl
+event_again (Event.DTxGranted id grant) = refl
+event_again (Event.DTxCeased id) = refl
+event_again (Event.DTxInterrupt id grant) = refl
+event_again (Event.DTxWait id) = refl
+event_again (Event.DTxContinue id go) = refl
+event_again (Event.DCallRestore id grant reset code) = refl
+event_again (Event.DDisconnect id) = refl
+event_again (Event.DRelease id) = refl
+event_again Event.ReportSent = refl
+event_again Event.ReportFailed = refl
+event_again Event.Break = refl
+event_again Event.Resume = refl
+event_again (Event.Expiry timer) = refl
 
 pub event_lawful : Lawful events
-event_lawful = record { together = λ k. (event-line k).1; again = event-again; found = event-found; current = refl; narrow = refl }
+event_lawful = record { together = λ k. (event_line k).1; again = event_again; found = event_found; current = refl; narrow = refl }
 
 -- a kind's number and size lead to it, and its values are taken apart as they were put together
 message_line : (k : MessageKind) → (find messages (message_row k).number (size_of messages k) message_kinds ≡ some k) × ((vs : Values (message_row k).letters) → all_fit (message_row k).letters vs ≡ true → ◌≡◌ {A = (k : MessageKind) × Values (message_row k).letters} (message_apart (message_of k vs)) (k, vs))

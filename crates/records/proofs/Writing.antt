@@ -112,9 +112,9 @@ module _ (t : Table) (v : t.Value) (buffer : List ℕ) {b : Bool} (same : b ≡ 
   unfolding write
   tested h e = rw (← same, not-false b h) e
 
-pub bytes-some : (f : Flat) → 0 < length (flat_bytes f)
+pub bytes_some : (f : Flat) → 0 < length (flat_bytes f)
 unfolding flat_size
-bytes-some f = rw length-flat_bytes (omega arith)
+bytes_some f = rw length-flat_bytes (omega arith)
 
 -- ---- a record, from what laying it at the front leaves
 

@@ -35,9 +35,9 @@ module _ (entry kind : ℕ) (c : Call) (s : List ℕ) where
       unfolding body_by body_for
       all_right h = rw (← body, ne_eqb _ _ some, ← filled, eq-eqb _ _ h) refl
 
-pub retired-kind : (n : ℕ) (c : Call) (s : List ℕ) → n ≡ RETIRED → refused 9 0 ≡ kind_by n c s
+pub retired_kind : (n : ℕ) (c : Call) (s : List ℕ) → n ≡ RETIRED → refused 9 0 ≡ kind_by n c s
 unfolding kind_by
-retired-kind n c s h = rw (eq-eqb _ _ h) refl
+retired_kind n c s h = rw (eq-eqb _ _ h) refl
 
 module _ (n : ℕ) (c : Call) (s : List ℕ) (current : n ≡ RETIRED → ⊥) (p : ℕ) (place : p ≡ place_of n) where
   pub too_far : 23 < p → refused 3 0 ≡ kind_by n c s
@@ -59,17 +59,17 @@ sized p h = at_entry sized_well entries refl p (omega arith)
 
 -- so the letters for a body are as long as it is
 module _ (entry : ℕ) (well : sized_well entry ≡ true) where
-  short-fits : 4 + total (spell 5 (entry % 0x10000)) ≡ entry / 0x10000 % 16
+  short_fits : 4 + total (spell 5 (entry % 0x10000)) ≡ entry / 0x10000 % 16
   unfolding sized_well
-  short-fits = eqb-true _ _ (both _ _ well).0
+  short_fits = eqb-true _ _ (both _ _ well).0
 
   longer : (b : Bool) (x y : ℕ) → cond b (eqb x y) true ≡ true → b ≡ true → x ≡ y
   longer true x y h e = eqb-true x y h
   longer false x y h e = absurd (true≢false (sym e))
 
-  long-fits : leb 0x80000000 entry ≡ true → 4 + total (spell 5 (with_slots (entry % 0x10000))) ≡ entry / 0x10000 % 16 + 1
+  long_fits : leb 0x80000000 entry ≡ true → 4 + total (spell 5 (with_slots (entry % 0x10000))) ≡ entry / 0x10000 % 16 + 1
   unfolding sized_well
-  long-fits h = longer (leb 0x80000000 entry) _ _ (both (eqb (4 + total (spell 5 (entry % 0x10000))) (entry / 0x10000 % 16)) _ well).1 h
+  long_fits h = longer (leb 0x80000000 entry) _ _ (both (eqb (4 + total (spell 5 (entry % 0x10000))) (entry / 0x10000 % 16)) _ well).1 h
 
   few : (ls : ℕ) → ls < 0x10000 → with_slots ls < 0x100000
   unfolding with_slots
@@ -82,13 +82,13 @@ module _ (entry : ℕ) (well : sized_well entry ≡ true) where
       (λ t.
       let is : l ≡ entry % 0x10000 = h ∙ rw t refl in
       let e = eqb-true size (entry / 0x10000 % 16) t in
-      rw is (omega arith, short-fits ∙ sym e, omega (arith, e)))
+      rw is (omega arith, short_fits ∙ sym e, omega (arith, e)))
       (λ f. by_test (one_more entry size (entry / 0x10000 % 16))
       (λ t.
       let w = both (leb 0x80000000 entry) (eqb size (entry / 0x10000 % 16 + 1)) t in
       let is : l ≡ with_slots (entry % 0x10000) = h ∙ rw (f, t) refl in
       let e = eqb-true size (entry / 0x10000 % 16 + 1) w.1 in
-      rw is (few (entry % 0x10000) (omega arith), long-fits w.0 ∙ sym e, omega (arith, e)))
+      rw is (few (entry % 0x10000) (omega arith), long_fits w.0 ∙ sym e, omega (arith, e)))
       (λ g. absurd (some (h ∙ rw (f, g) refl))))
 
 pub bad_head : (h : Head) (c : Call) (s : List ℕ) → OneOf (1 ∷ []) (Declared.tag_of head.the_type h) → as_head h ≡ kind_in s → refused 2 0 ≡ flatted c (read events s)

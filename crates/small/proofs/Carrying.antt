@@ -72,25 +72,25 @@ module _ (code p : ℕ) (r : Row) where
       (cond (eqb d 8) (Slot.Holds (Message.TxIndication r.value))
       (cond (eqb d 9) (Slot.Holds (Message.ModifyIndication r.mode r.slots)) Slot.Empty))))))))
 
-  stop-place : (b : Bool) (k : ℕ) → place_bytes k (cond b STOP 0) values ≡ bytes_of (when b (Message.Stop (timer_at (k % 9))))
+  stop_place : (b : Bool) (k : ℕ) → place_bytes k (cond b STOP 0) values ≡ bytes_of (when b (Message.Stop (timer_at (k % 9))))
   unfolding opened
-  stop-place true k = refl
-  stop-place false k = refl
+  stop_place true k = refl
+  stop_place false k = refl
 
-  start-place : (b : Bool) (k : ℕ) → place_bytes k (cond b START 0) values ≡ bytes_of (when b (Message.Start (timer_at (k % 9)) (cond (eqb k 14) code 0)))
+  start_place : (b : Bool) (k : ℕ) → place_bytes k (cond b START 0) values ≡ bytes_of (when b (Message.Start (timer_at (k % 9)) (cond (eqb k 14) code 0)))
   unfolding opened
-  start-place true k = refl
-  start-place false k = refl
+  start_place true k = refl
+  start_place false k = refl
 
-  cancel-place : (b : Bool) → place_bytes 7 (cond b CANCELLING 0) values ≡ bytes_of (when b Message.Cancel)
+  cancel_place : (b : Bool) → place_bytes 7 (cond b CANCELLING 0) values ≡ bytes_of (when b Message.Cancel)
   unfolding opened
-  cancel-place true = refl
-  cancel-place false = refl
+  cancel_place true = refl
+  cancel_place false = refl
 
-  plane-place : (b : Bool) → place_bytes 16 (cond b CONFIGURE 0) values ≡ bytes_of (when b (Message.Configure p))
+  plane_place : (b : Bool) → place_bytes 16 (cond b CONFIGURE 0) values ≡ bytes_of (when b (Message.Configure p))
   unfolding opened
-  plane-place true = refl
-  plane-place false = refl
+  plane_place true = refl
+  plane_place false = refl
 
   no_more : (d : ℕ) → 9 < d → pdu_at d ≡ Slot.Empty
   no_more d h =
@@ -106,15 +106,15 @@ module _ (code p : ℕ) (r : Row) where
   setup_place zero = refl
   setup_place (suc v) = rw (ne_eqb (suc v) 0 (λ z. absurd (omega arith))) refl
 
-  pdu-place : (d : ℕ) → place_bytes 8 (pdu_of d r.value) values ≡ bytes_of (held (pdu_at d))
+  pdu_place : (d : ℕ) → place_bytes 8 (pdu_of d r.value) values ≡ bytes_of (held (pdu_at d))
   unfolding opened
-  pdu-place =
+  pdu_place =
       by_digit (λ d. place_bytes 8 (pdu_of d r.value) values ≡ bytes_of (held (pdu_at d))) refl (setup_place r.value) refl refl refl refl refl refl refl refl
       (λ d h. rw (no_more d h, ne_eqb d 0 (λ z. absurd (omega arith)), ne_eqb d 1 (λ z. absurd (omega arith)), lt-ltb 7 d (omega arith)) refl)
 
-  user-place : (d : ℕ) → place_bytes 17 (number_of d PRIMITIVES U_PDUS) values ≡ bytes_of (held (user_at d))
+  user_place : (d : ℕ) → place_bytes 17 (number_of d PRIMITIVES U_PDUS) values ≡ bytes_of (held (user_at d))
   unfolding opened
-  user-place =
+  user_place =
       by_digit (λ d. place_bytes 17 (number_of d PRIMITIVES U_PDUS) values ≡ bytes_of (held (user_at d))) refl refl refl refl refl refl refl refl refl refl
       (λ d h. rw (no_more_user d h, ne_eqb d 0 (λ z. absurd (omega arith)), lt-ltb 9 d (omega arith)) refl)
 
@@ -142,12 +142,12 @@ module _ (code p : ℕ) (r : Row) where
       let u : ℕ = r.orders / 0x100000 % 16 in
       let ws : ℕ → List Message = λ k. when (get_or stops k false) (Message.Stop (timer_at (k % 9))) in
       let vs : ℕ → ℕ → List Message = λ k j. when (get_or starts j false) (Message.Start (timer_at (k % 9)) (cond (eqb k 14) code 0)) in
-      let stop : (k : ℕ) → Spells (place_bytes k (cond (get_or stops k false) STOP 0) values) (ws k) = λ k. record { is = stop-place (get_or stops k false) k } in
-      let start : (k j : ℕ) → Spells (place_bytes k (cond (get_or starts j false) START 0) values) (vs k j) = λ k j. record { is = start-place (get_or starts j false) k } in
-      let cancel : Spells (place_bytes 7 (cond b CANCELLING 0) values) (when b Message.Cancel) = record { is = cancel-place b } in
-      let pdu : Spells (place_bytes 8 (pdu_of d r.value) values) (held (pdu_at d)) = record { is = pdu-place d } in
-      let plane : Spells (place_bytes 16 (cond f CONFIGURE 0) values) (when f (Message.Configure p)) = record { is = plane-place f } in
-      let user : Spells (place_bytes 17 (number_of u PRIMITIVES U_PDUS) values) (held (user_at u)) = record { is = user-place u } in
+      let stop : (k : ℕ) → Spells (place_bytes k (cond (get_or stops k false) STOP 0) values) (ws k) = λ k. record { is = stop_place (get_or stops k false) k } in
+      let start : (k j : ℕ) → Spells (place_bytes k (cond (get_or starts j false) START 0) values) (vs k j) = λ k j. record { is = start_place (get_or starts j false) k } in
+      let cancel : Spells (place_bytes 7 (cond b CANCELLING 0) values) (when b Message.Cancel) = record { is = cancel_place b } in
+      let pdu : Spells (place_bytes 8 (pdu_of d r.value) values) (held (pdu_at d)) = record { is = pdu_place d } in
+      let plane : Spells (place_bytes 16 (cond f CONFIGURE 0) values) (when f (Message.Configure p)) = record { is = plane_place f } in
+      let user : Spells (place_bytes 17 (number_of u PRIMITIVES U_PDUS) values) (held (user_at u)) = record { is = user_place u } in
       let later = seven (vs 9 0) (vs 10 1) (vs 11 2) (vs 12 3) (vs 13 4) (vs 14 5) (vs 15 6) (when f (Message.Configure p) ++ held (user_at u))
       (then (start 9 0) (then (start 10 1) (then (start 11 2) (then (start 12 3) (then (start 13 4) (then (start 14 5) (then (start 15 6) (then plane (last user))))))))) in
       (seven (ws 0) (ws 1) (ws 2) (ws 3) (ws 4) (ws 5) (ws 6) _

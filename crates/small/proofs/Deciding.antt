@@ -57,34 +57,34 @@ other_is c Event.Break = refl
 other_is c Event.Resume = refl
 other_is c (Event.Expiry n) = expiries (λ f. names_other f.kind f.id c.id (is_idle c) ≡ false) c n (λ t. refl) (λ t. refl) (λ t. refl) (λ t. refl)
 
-over-is : (c : Call) (e : Event) → over_flat (flat_of c e).kind c.plane ≡ over_transmission c e
+over_is : (c : Call) (e : Event) → over_flat (flat_of c e).kind c.plane ≡ over_transmission c e
 unfolding flat_of over_flat
-over-is c (Event.SetupRequest a d q zero) = refl
-over-is c (Event.SetupRequest a d q (suc s)) = refl
-over-is c Event.SetupResponse = refl
-over-is c Event.ReleaseRequest = refl
-over-is c (Event.TxRequest k) = refl
-over-is c (Event.DCallProceeding i) = refl
-over-is c (Event.DAlert i) = refl
-over-is c (Event.DConnect i g d o zero) = refl
-over-is c (Event.DConnect i g d o (suc s)) = refl
-over-is c (Event.DConnectAcknowledge i g o) = refl
-over-is c (Event.DSetup i a d) = refl
-over-is c (Event.DInfo i r o d zero) = refl
-over-is c (Event.DInfo i r o d (suc s)) = refl
-over-is c (Event.DTxGranted i g) = refl
-over-is c (Event.DTxCeased i) = refl
-over-is c (Event.DTxInterrupt i g) = refl
-over-is c (Event.DTxWait i) = refl
-over-is c (Event.DTxContinue i k) = refl
-over-is c (Event.DCallRestore i g r o) = refl
-over-is c (Event.DDisconnect i) = refl
-over-is c (Event.DRelease i) = refl
-over-is c Event.ReportSent = refl
-over-is c Event.ReportFailed = refl
-over-is c Event.Break = refl
-over-is c Event.Resume = refl
-over-is c (Event.Expiry n) = expiries (λ f. over_flat f.kind c.plane ≡ false) c n (λ t. refl) (λ t. refl) (λ t. refl) (λ t. refl)
+over_is c (Event.SetupRequest a d q zero) = refl
+over_is c (Event.SetupRequest a d q (suc s)) = refl
+over_is c Event.SetupResponse = refl
+over_is c Event.ReleaseRequest = refl
+over_is c (Event.TxRequest k) = refl
+over_is c (Event.DCallProceeding i) = refl
+over_is c (Event.DAlert i) = refl
+over_is c (Event.DConnect i g d o zero) = refl
+over_is c (Event.DConnect i g d o (suc s)) = refl
+over_is c (Event.DConnectAcknowledge i g o) = refl
+over_is c (Event.DSetup i a d) = refl
+over_is c (Event.DInfo i r o d zero) = refl
+over_is c (Event.DInfo i r o d (suc s)) = refl
+over_is c (Event.DTxGranted i g) = refl
+over_is c (Event.DTxCeased i) = refl
+over_is c (Event.DTxInterrupt i g) = refl
+over_is c (Event.DTxWait i) = refl
+over_is c (Event.DTxContinue i k) = refl
+over_is c (Event.DCallRestore i g r o) = refl
+over_is c (Event.DDisconnect i) = refl
+over_is c (Event.DRelease i) = refl
+over_is c Event.ReportSent = refl
+over_is c Event.ReportFailed = refl
+over_is c Event.Break = refl
+over_is c Event.Resume = refl
+over_is c (Event.Expiry n) = expiries (λ f. over_flat f.kind c.plane ≡ false) c n (λ t. refl) (λ t. refl) (λ t. refl) (λ t. refl)
 
 by_row : (c : Call) (r : Row) (b : List ℕ) (over : Bool)
     → cond (eqb r.orders 0) (refusal 6 c b) (cond over (refusal 8 c b) (carried c (settled c r) b))
@@ -92,10 +92,10 @@ by_row : (c : Call) (r : Row) (b : List ℕ) (over : Bool)
 unfolding draft_of no_row settled
 by_row c r b over = by_test (eqb r.orders 0) (λ z. rw z refl) (λ z. rw z refl)
 
-pub decided-is : (c : Call) (e : Event) (b : List ℕ) → decided_by c (flat_of c e) b ≡ decided c e b
+pub decided_is : (c : Call) (e : Event) (b : List ℕ) → decided_by c (flat_of c e) b ≡ decided c e b
 unfolding decided_by decided
-decided-is c e b =
-    rw (other_is c e, over-is c e)
+decided_is c e b =
+    rw (other_is c e, over_is c e)
     (ap (λ (w : Outcome). cond (other_call c e) (refusal 5 c b) w)
     (by_row c (table_row c (flat_of c e)) b (over_transmission c e)
     ∙ ap (λ (d : Draft). cond d.taken (cond (over_transmission c e) (refusal 8 c b) (carried c d b)) (refusal 6 c b)) (same c e)))
@@ -119,17 +119,17 @@ is_taken (taken f) = true
 is_taken (refused n p) = false
 
 module _ (c : Call) (b : List ℕ) where
-  pub read-event : (w : Read Event) (f : Flat) → taken f ≡ flatted c w → decided_by c f b ≡ when_read w c b
-  read-event (taken e) f h = ap (λ (g : Flat). decided_by c g b) (ap (event_in f) h) ∙ decided-is c e b
-  read-event (refused n p) f h = absurd (true≢false (ap is_taken h))
+  pub read_event : (w : Read Event) (f : Flat) → taken f ≡ flatted c w → decided_by c f b ≡ when_read w c b
+  read_event (taken e) f h = ap (λ (g : Flat). decided_by c g b) (ap (event_in f) h) ∙ decided_is c e b
+  read_event (refused n p) f h = absurd (true≢false (ap is_taken h))
 
-  pub read-timer : (w : Read Event) (f : Flat) → taken f ≡ flatted c w → f.timer < 7
-  read-timer (taken e) f h = subst (λ (g : Flat). g.timer < 7) (sym (ap (event_in f) h)) (small c e)
-  read-timer (refused n p) f h = absurd (true≢false (ap is_taken h))
+  pub read_timer : (w : Read Event) (f : Flat) → taken f ≡ flatted c w → f.timer < 7
+  read_timer (taken e) f h = subst (λ (g : Flat). g.timer < 7) (sym (ap (event_in f) h)) (small c e)
+  read_timer (refused n p) f h = absurd (true≢false (ap is_taken h))
 
-  pub read-refused : (w : Read Event) (n p : ℕ) → refused n p ≡ flatted c w → refusal_at n p c b ≡ when_read w c b
-  read-refused (taken e) n p h = absurd (true≢false (ap is_taken (sym h)))
-  read-refused (refused m o) n p h = rw (ap number_in h, ap place_in h) refl
+  pub read_refused : (w : Read Event) (n p : ℕ) → refused n p ≡ flatted c w → refusal_at n p c b ≡ when_read w c b
+  read_refused (taken e) n p h = absurd (true≢false (ap is_taken (sym h)))
+  read_refused (refused m o) n p h = rw (ap number_in h, ap place_in h) refl
 
 -- the answers in their order
 module _ (c : Call) (f : Flat) (b : List ℕ) where
@@ -141,9 +141,9 @@ module _ (c : Call) (f : Flat) (b : List ℕ) where
   by_other h = rw h refl
 
   module _ (r : Row) (agrees : other ≡ false) (row : r ≡ table_row c f) where
-    pub by-none : r.orders ≡ 0 → refusal 6 c b ≡ decided_by c f b
+    pub by_none : r.orders ≡ 0 → refusal 6 c b ≡ decided_by c f b
     unfolding decided_by
-    by-none h = rw (agrees, ← row, eq-eqb _ _ h) refl
+    by_none h = rw (agrees, ← row, eq-eqb _ _ h) refl
 
     pub by_over : (r.orders ≡ 0 → ⊥) → over_flat f.kind c.plane ≡ true → refusal 8 c b ≡ decided_by c f b
     unfolding decided_by

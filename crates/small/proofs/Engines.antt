@@ -25,8 +25,8 @@ use Rattle.small.specs.Reading.{kind_by, flatted}
 use Rattle.small.specs.Small.{names_other, over_flat, decided_by, carried_by, tabled, when_flat, small_of}
 use Rattle.small.specs.Engines.{Engine, Promised, given, Equal, engine_run, Gives, Keeps, RunBy, none, turn, SameStep, TablesAreStep, SameRun, OneRun}
 use Rattle.small.proofs.Carrying.{whole}
-use Rattle.small.proofs.Deciding.{decided-is}
-use Rattle.small.proofs.Entries.{kind-is}
+use Rattle.small.proofs.Deciding.{decided_is}
+use Rattle.small.proofs.Entries.{kind_is}
 
 -- two results that one outcome allows
 equal : (o : Outcome) (r₁ r₂ : Stepped) (b₁ b₂ : List ℕ) → as_outcome r₁ b₁ ≡ o → as_outcome r₂ b₂ ≡ o → Equal r₁ r₂ b₁ b₂
@@ -45,21 +45,21 @@ same_step first second p q c event buffer = equal (step_of c event buffer) _ _ _
 
 -- by the tables
 
-carried-is : (c : Call) (r : Row) (b : List ℕ) → carried_by c r b ≡ carried c (settled c r) b
+carried_is : (c : Call) (r : Row) (b : List ℕ) → carried_by c r b ≡ carried c (settled c r) b
 unfolding carried_by carried
-carried-is c r b = rw (whole c r) refl
+carried_is c r b = rw (whole c r) refl
 
-tabled-is : (c : Call) (f : Flat) (b : List ℕ) → tabled c f b ≡ decided_by c f b
+tabled_is : (c : Call) (f : Flat) (b : List ℕ) → tabled c f b ≡ decided_by c f b
 unfolding tabled decided_by
-tabled-is c f b = rw (carried-is c (table_row c f) b) refl
+tabled_is c f b = rw (carried_is c (table_row c f) b) refl
 
-flat-is : (w : Read Event) (c : Call) (b : List ℕ) → when_flat (flatted c w) c b ≡ when_read w c b
-flat-is (taken e) c b = tabled-is c (flat_of c e) b ∙ decided-is c e b
-flat-is (refused n p) c b = refl
+flat_is : (w : Read Event) (c : Call) (b : List ℕ) → when_flat (flatted c w) c b ≡ when_read w c b
+flat_is (taken e) c b = tabled_is c (flat_of c e) b ∙ decided_is c e b
+flat_is (refused n p) c b = refl
 
 head_is : (h : Option ℕ) (c : Call) (s : List ℕ) → or_refuse 2 h (λ n. kind_by n c s) ≡ flatted c (or_refuse 2 h (λ n. read_as events n s))
 head_is none c s = refl
-head_is (some n) c s = kind-is n c s
+head_is (some n) c s = kind_is n c s
 
 read_is : (c : Call) (s : List ℕ) → or_refuse 2 (kind_in s) (λ n. kind_by n c s) ≡ flatted c (read events s)
 unfolding read
@@ -69,7 +69,7 @@ pub tables_are_step : TablesAreStep
 unfolding small_of step_of
 tables_are_step c event buffer =
     ap (λ (o : Outcome). cond (sound c) o (refusal 1 c buffer))
-    (ap (λ (w : Read Flat). when_flat w c buffer) (read_is c event) ∙ flat-is (read events event) c buffer)
+    (ap (λ (w : Read Flat). when_flat w c buffer) (read_is c event) ∙ flat_is (read events event) c buffer)
 
 -- runs
 
@@ -82,8 +82,8 @@ unfolding engine_run run next
 record_is f p c [] = refl
 record_is f p c (t ∷ ts) = rw (turn_is f p c t) (record_is f p (outcome c t).call ts)
 
-pub same-run : SameRun
-same-run f p c ts = (record_is f p c ts, λ t. rw (record_is f p c ts) (turn_is f p (run c ts) t))
+pub same_run : SameRun
+same_run f p c ts = (record_is f p c ts, λ t. rw (record_is f p c ts) (turn_is f p (run c ts) t))
 
 record_by : (g : Gives) → Keeps g → {c last : Call} {ts : List Turn} → RunBy g c ts last → last ≡ run c ts
 unfolding run next outcome

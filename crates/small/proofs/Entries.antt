@@ -103,9 +103,9 @@ module _ (c : Call) (bytes : List ℕ) where
   abbrev Reads : ℕ → EventKind → List ℕ → Type 0
   Reads kind x ls = timed kind (fill ls (slots c) bytes 4) ≡ flatted c (or_place (values_at (event_row x).letters bytes 4) (λ vs. taken (event_of x vs)))
 
-  by-letters : (ls : List ℕ) (kind : ℕ) (e : Values (map letter_of ls) → Event) → AllSame ls → ((vs : Values (map letter_of ls)) → flat_at kind (store ls (slots c) vs) ≡ taken (flat_of c (e vs)))
+  by_letters : (ls : List ℕ) (kind : ℕ) (e : Values (map letter_of ls) → Event) → AllSame ls → ((vs : Values (map letter_of ls)) → flat_at kind (store ls (slots c) vs) ≡ taken (flat_of c (e vs)))
       → timed kind (fill ls (slots c) bytes 4) ≡ flatted c (or_place (values_at (map letter_of ls) bytes 4) (λ vs. taken (e vs)))
-  by-letters ls kind e same at = finish kind (fill ls (slots c) bytes 4) (store ls (slots c)) e (values_at (map letter_of ls) bytes 4) (filled ls (slots c) bytes 4 same) at
+  by_letters ls kind e same at = finish kind (fill ls (slots c) bytes 4) (store ls (slots c)) e (values_at (map letter_of ls) bytes 4) (filled ls (slots c) bytes 4 same) at
 
   -- a kind with one body, and one with two: the body that has the size
   one : (kind l : ℕ) (x : EventKind) → eqb l 0x100000 ≡ false → Reads kind x (spell 5 l) → (b : Bool) → eqb (length bytes) (size_of events x) ≡ b
@@ -130,38 +130,38 @@ module _ (c : Call) (bytes : List ℕ) where
   unfolding body_by letters_for one_more with_slots read_as read_among spell
   looked_up = tt
 
-  setup_request-reads : Reads SETUP_REQUEST EventKind.setup_request (A₁ ∷ D ∷ Q ∷ [])
+  setup_request_reads : Reads SETUP_REQUEST EventKind.setup_request (A₁ ∷ D ∷ Q ∷ [])
   unfolding opened
-  setup_request-reads = by-letters (A₁ ∷ D ∷ Q ∷ []) SETUP_REQUEST (event_of EventKind.setup_request) ((refl, λ x. refl), ((refl, λ x. refl), ((refl, λ x. refl), tt))) (λ vs. refl)
+  setup_request_reads = by_letters (A₁ ∷ D ∷ Q ∷ []) SETUP_REQUEST (event_of EventKind.setup_request) ((refl, λ x. refl), ((refl, λ x. refl), ((refl, λ x. refl), tt))) (λ vs. refl)
 
   setup_request_slots_reads : Reads SETUP_REQUEST EventKind.setup_request_slots (A₁ ∷ D ∷ Q ∷ S ∷ [])
   unfolding opened
-  setup_request_slots_reads = by-letters (A₁ ∷ D ∷ Q ∷ S ∷ []) SETUP_REQUEST (event_of EventKind.setup_request_slots) ((refl, λ x. refl), ((refl, λ x. refl), ((refl, λ x. refl), ((refl, λ x. refl), tt)))) (λ vs. refl)
+  setup_request_slots_reads = by_letters (A₁ ∷ D ∷ Q ∷ S ∷ []) SETUP_REQUEST (event_of EventKind.setup_request_slots) ((refl, λ x. refl), ((refl, λ x. refl), ((refl, λ x. refl), ((refl, λ x. refl), tt)))) (λ vs. refl)
 
-  setup_request-is : body_by (entry_of EventKind.setup_request) SETUP_REQUEST c bytes ≡ flatted c (read_as events (event_row EventKind.setup_request).number bytes)
+  setup_request_is : body_by (entry_of EventKind.setup_request) SETUP_REQUEST c bytes ≡ flatted c (read_as events (event_row EventKind.setup_request).number bytes)
   unfolding looked_up
-  setup_request-is =
-      two SETUP_REQUEST 0x761 0xd761 EventKind.setup_request EventKind.setup_request_slots refl refl setup_request-reads setup_request_slots_reads (eqb (length bytes) 10) (eqb (length bytes) 11) refl refl
+  setup_request_is =
+      two SETUP_REQUEST 0x761 0xd761 EventKind.setup_request EventKind.setup_request_slots refl refl setup_request_reads setup_request_slots_reads (eqb (length bytes) 10) (eqb (length bytes) 11) refl refl
 
-  setup_response-reads : Reads SETUP_RESPONSE EventKind.setup_response []
+  setup_response_reads : Reads SETUP_RESPONSE EventKind.setup_response []
   unfolding opened
-  setup_response-reads = by-letters [] SETUP_RESPONSE (event_of EventKind.setup_response) tt (λ vs. refl)
+  setup_response_reads = by_letters [] SETUP_RESPONSE (event_of EventKind.setup_response) tt (λ vs. refl)
 
-  setup_response-is : body_by (entry_of EventKind.setup_response) SETUP_RESPONSE c bytes ≡ flatted c (read_as events (event_row EventKind.setup_response).number bytes)
+  setup_response_is : body_by (entry_of EventKind.setup_response) SETUP_RESPONSE c bytes ≡ flatted c (read_as events (event_row EventKind.setup_response).number bytes)
   unfolding looked_up
-  setup_response-is = one SETUP_RESPONSE 0x0 EventKind.setup_response refl setup_response-reads (eqb (length bytes) 4) refl
+  setup_response_is = one SETUP_RESPONSE 0x0 EventKind.setup_response refl setup_response_reads (eqb (length bytes) 4) refl
 
-  release_request-reads : Reads RELEASE_REQUEST EventKind.release_request []
+  release_request_reads : Reads RELEASE_REQUEST EventKind.release_request []
   unfolding opened
-  release_request-reads = by-letters [] RELEASE_REQUEST (event_of EventKind.release_request) tt (λ vs. refl)
+  release_request_reads = by_letters [] RELEASE_REQUEST (event_of EventKind.release_request) tt (λ vs. refl)
 
-  release_request-is : body_by (entry_of EventKind.release_request) RELEASE_REQUEST c bytes ≡ flatted c (read_as events (event_row EventKind.release_request).number bytes)
+  release_request_is : body_by (entry_of EventKind.release_request) RELEASE_REQUEST c bytes ≡ flatted c (read_as events (event_row EventKind.release_request).number bytes)
   unfolding looked_up
-  release_request-is = one RELEASE_REQUEST 0x0 EventKind.release_request refl release_request-reads (eqb (length bytes) 4) refl
+  release_request_is = one RELEASE_REQUEST 0x0 EventKind.release_request refl release_request_reads (eqb (length bytes) 4) refl
 
   tx_request_reads : Reads TX_REQUEST EventKind.tx_request (K ∷ [])
   unfolding opened
-  tx_request_reads = by-letters (K ∷ []) TX_REQUEST (event_of EventKind.tx_request) ((refl, λ x. refl), tt) (λ vs. refl)
+  tx_request_reads = by_letters (K ∷ []) TX_REQUEST (event_of EventKind.tx_request) ((refl, λ x. refl), tt) (λ vs. refl)
 
   tx_request_is : body_by (entry_of EventKind.tx_request) TX_REQUEST c bytes ≡ flatted c (read_as events (event_row EventKind.tx_request).number bytes)
   unfolding looked_up
@@ -169,56 +169,56 @@ module _ (c : Call) (bytes : List ℕ) where
 
   d_call_proceeding_reads : Reads D_CALL_PROCEEDING EventKind.d_call_proceeding (I ∷ [])
   unfolding opened
-  d_call_proceeding_reads = by-letters (I ∷ []) D_CALL_PROCEEDING (event_of EventKind.d_call_proceeding) ((refl, λ x. refl), tt) (λ vs. refl)
+  d_call_proceeding_reads = by_letters (I ∷ []) D_CALL_PROCEEDING (event_of EventKind.d_call_proceeding) ((refl, λ x. refl), tt) (λ vs. refl)
 
   d_call_proceeding_is : body_by (entry_of EventKind.d_call_proceeding) D_CALL_PROCEEDING c bytes ≡ flatted c (read_as events (event_row EventKind.d_call_proceeding).number bytes)
   unfolding looked_up
   d_call_proceeding_is = one D_CALL_PROCEEDING 0x3 EventKind.d_call_proceeding refl d_call_proceeding_reads (eqb (length bytes) 6) refl
 
-  d_alert-reads : Reads D_ALERT EventKind.d_alert (I ∷ [])
+  d_alert_reads : Reads D_ALERT EventKind.d_alert (I ∷ [])
   unfolding opened
-  d_alert-reads = by-letters (I ∷ []) D_ALERT (event_of EventKind.d_alert) ((refl, λ x. refl), tt) (λ vs. refl)
+  d_alert_reads = by_letters (I ∷ []) D_ALERT (event_of EventKind.d_alert) ((refl, λ x. refl), tt) (λ vs. refl)
 
-  d_alert-is : body_by (entry_of EventKind.d_alert) D_ALERT c bytes ≡ flatted c (read_as events (event_row EventKind.d_alert).number bytes)
+  d_alert_is : body_by (entry_of EventKind.d_alert) D_ALERT c bytes ≡ flatted c (read_as events (event_row EventKind.d_alert).number bytes)
   unfolding looked_up
-  d_alert-is = one D_ALERT 0x3 EventKind.d_alert refl d_alert-reads (eqb (length bytes) 6) refl
+  d_alert_is = one D_ALERT 0x3 EventKind.d_alert refl d_alert_reads (eqb (length bytes) 6) refl
 
-  d_connect-reads : Reads D_CONNECT EventKind.d_connect (I ∷ G ∷ D ∷ O ∷ [])
+  d_connect_reads : Reads D_CONNECT EventKind.d_connect (I ∷ G ∷ D ∷ O ∷ [])
   unfolding opened
-  d_connect-reads = by-letters (I ∷ G ∷ D ∷ O ∷ []) D_CONNECT (event_of EventKind.d_connect) ((refl, λ x. refl), ((refl, λ x. refl), ((refl, λ x. refl), ((refl, λ x. refl), tt)))) (λ vs. refl)
+  d_connect_reads = by_letters (I ∷ G ∷ D ∷ O ∷ []) D_CONNECT (event_of EventKind.d_connect) ((refl, λ x. refl), ((refl, λ x. refl), ((refl, λ x. refl), ((refl, λ x. refl), tt)))) (λ vs. refl)
 
   d_connect_slots_reads : Reads D_CONNECT EventKind.d_connect_slots (I ∷ G ∷ D ∷ O ∷ S ∷ [])
   unfolding opened
-  d_connect_slots_reads = by-letters (I ∷ G ∷ D ∷ O ∷ S ∷ []) D_CONNECT (event_of EventKind.d_connect_slots) ((refl, λ x. refl), ((refl, λ x. refl), ((refl, λ x. refl), ((refl, λ x. refl), ((refl, λ x. refl), tt))))) (λ vs. refl)
+  d_connect_slots_reads = by_letters (I ∷ G ∷ D ∷ O ∷ S ∷ []) D_CONNECT (event_of EventKind.d_connect_slots) ((refl, λ x. refl), ((refl, λ x. refl), ((refl, λ x. refl), ((refl, λ x. refl), ((refl, λ x. refl), tt))))) (λ vs. refl)
 
-  d_connect-is : body_by (entry_of EventKind.d_connect) D_CONNECT c bytes ≡ flatted c (read_as events (event_row EventKind.d_connect).number bytes)
+  d_connect_is : body_by (entry_of EventKind.d_connect) D_CONNECT c bytes ≡ flatted c (read_as events (event_row EventKind.d_connect).number bytes)
   unfolding looked_up
-  d_connect-is =
-      two D_CONNECT 0xb693 0xdb693 EventKind.d_connect EventKind.d_connect_slots refl refl d_connect-reads d_connect_slots_reads (eqb (length bytes) 9) (eqb (length bytes) 10) refl refl
+  d_connect_is =
+      two D_CONNECT 0xb693 0xdb693 EventKind.d_connect EventKind.d_connect_slots refl refl d_connect_reads d_connect_slots_reads (eqb (length bytes) 9) (eqb (length bytes) 10) refl refl
 
-  d_connect_acknowledge-reads : Reads D_CONNECT_ACKNOWLEDGE EventKind.d_connect_acknowledge (I ∷ G ∷ O ∷ [])
+  d_connect_acknowledge_reads : Reads D_CONNECT_ACKNOWLEDGE EventKind.d_connect_acknowledge (I ∷ G ∷ O ∷ [])
   unfolding opened
-  d_connect_acknowledge-reads = by-letters (I ∷ G ∷ O ∷ []) D_CONNECT_ACKNOWLEDGE (event_of EventKind.d_connect_acknowledge) ((refl, λ x. refl), ((refl, λ x. refl), ((refl, λ x. refl), tt))) (λ vs. refl)
+  d_connect_acknowledge_reads = by_letters (I ∷ G ∷ O ∷ []) D_CONNECT_ACKNOWLEDGE (event_of EventKind.d_connect_acknowledge) ((refl, λ x. refl), ((refl, λ x. refl), ((refl, λ x. refl), tt))) (λ vs. refl)
 
-  d_connect_acknowledge-is : body_by (entry_of EventKind.d_connect_acknowledge) D_CONNECT_ACKNOWLEDGE c bytes ≡ flatted c (read_as events (event_row EventKind.d_connect_acknowledge).number bytes)
+  d_connect_acknowledge_is : body_by (entry_of EventKind.d_connect_acknowledge) D_CONNECT_ACKNOWLEDGE c bytes ≡ flatted c (read_as events (event_row EventKind.d_connect_acknowledge).number bytes)
   unfolding looked_up
-  d_connect_acknowledge-is = one D_CONNECT_ACKNOWLEDGE 0xb93 EventKind.d_connect_acknowledge refl d_connect_acknowledge-reads (eqb (length bytes) 8) refl
+  d_connect_acknowledge_is = one D_CONNECT_ACKNOWLEDGE 0xb93 EventKind.d_connect_acknowledge refl d_connect_acknowledge_reads (eqb (length bytes) 8) refl
 
-  d_setup-reads : Reads D_SETUP EventKind.d_setup (I ∷ A ∷ D ∷ [])
+  d_setup_reads : Reads D_SETUP EventKind.d_setup (I ∷ A ∷ D ∷ [])
   unfolding opened
-  d_setup-reads = by-letters (I ∷ A ∷ D ∷ []) D_SETUP (event_of EventKind.d_setup) ((refl, λ x. refl), ((refl, λ x. refl), ((refl, λ x. refl), tt))) (λ vs. refl)
+  d_setup_reads = by_letters (I ∷ A ∷ D ∷ []) D_SETUP (event_of EventKind.d_setup) ((refl, λ x. refl), ((refl, λ x. refl), ((refl, λ x. refl), tt))) (λ vs. refl)
 
-  d_setup-is : body_by (entry_of EventKind.d_setup) D_SETUP c bytes ≡ flatted c (read_as events (event_row EventKind.d_setup).number bytes)
+  d_setup_is : body_by (entry_of EventKind.d_setup) D_SETUP c bytes ≡ flatted c (read_as events (event_row EventKind.d_setup).number bytes)
   unfolding looked_up
-  d_setup-is = one D_SETUP 0x623 EventKind.d_setup refl d_setup-reads (eqb (length bytes) 11) refl
+  d_setup_is = one D_SETUP 0x623 EventKind.d_setup refl d_setup_reads (eqb (length bytes) 11) refl
 
   d_info_reads : Reads D_INFO EventKind.d_info (I ∷ R ∷ O₁₆ ∷ D ∷ [])
   unfolding opened
-  d_info_reads = by-letters (I ∷ R ∷ O₁₆ ∷ D ∷ []) D_INFO (event_of EventKind.d_info) ((refl, λ x. refl), ((refl, λ x. refl), ((refl, λ x. refl), ((refl, λ x. refl), tt)))) (λ vs. refl)
+  d_info_reads = by_letters (I ∷ R ∷ O₁₆ ∷ D ∷ []) D_INFO (event_of EventKind.d_info) ((refl, λ x. refl), ((refl, λ x. refl), ((refl, λ x. refl), ((refl, λ x. refl), tt)))) (λ vs. refl)
 
   d_info_slots_reads : Reads D_INFO EventKind.d_info_slots (I ∷ R ∷ O₁₆ ∷ D ∷ S ∷ [])
   unfolding opened
-  d_info_slots_reads = by-letters (I ∷ R ∷ O₁₆ ∷ D ∷ S ∷ []) D_INFO (event_of EventKind.d_info_slots) ((refl, λ x. refl), ((refl, λ x. refl), ((refl, λ x. refl), ((refl, λ x. refl), ((refl, λ x. refl), tt))))) (λ vs. refl)
+  d_info_slots_reads = by_letters (I ∷ R ∷ O₁₆ ∷ D ∷ S ∷ []) D_INFO (event_of EventKind.d_info_slots) ((refl, λ x. refl), ((refl, λ x. refl), ((refl, λ x. refl), ((refl, λ x. refl), ((refl, λ x. refl), tt))))) (λ vs. refl)
 
   d_info_is : body_by (entry_of EventKind.d_info) D_INFO c bytes ≡ flatted c (read_as events (event_row EventKind.d_info).number bytes)
   unfolding looked_up
@@ -227,7 +227,7 @@ module _ (c : Call) (bytes : List ℕ) where
 
   d_tx_granted_reads : Reads D_TX_GRANTED EventKind.d_tx_granted (I ∷ G ∷ [])
   unfolding opened
-  d_tx_granted_reads = by-letters (I ∷ G ∷ []) D_TX_GRANTED (event_of EventKind.d_tx_granted) ((refl, λ x. refl), ((refl, λ x. refl), tt)) (λ vs. refl)
+  d_tx_granted_reads = by_letters (I ∷ G ∷ []) D_TX_GRANTED (event_of EventKind.d_tx_granted) ((refl, λ x. refl), ((refl, λ x. refl), tt)) (λ vs. refl)
 
   d_tx_granted_is : body_by (entry_of EventKind.d_tx_granted) D_TX_GRANTED c bytes ≡ flatted c (read_as events (event_row EventKind.d_tx_granted).number bytes)
   unfolding looked_up
@@ -235,39 +235,39 @@ module _ (c : Call) (bytes : List ℕ) where
 
   d_tx_ceased_reads : Reads D_TX_CEASED EventKind.d_tx_ceased (I ∷ [])
   unfolding opened
-  d_tx_ceased_reads = by-letters (I ∷ []) D_TX_CEASED (event_of EventKind.d_tx_ceased) ((refl, λ x. refl), tt) (λ vs. refl)
+  d_tx_ceased_reads = by_letters (I ∷ []) D_TX_CEASED (event_of EventKind.d_tx_ceased) ((refl, λ x. refl), tt) (λ vs. refl)
 
   d_tx_ceased_is : body_by (entry_of EventKind.d_tx_ceased) D_TX_CEASED c bytes ≡ flatted c (read_as events (event_row EventKind.d_tx_ceased).number bytes)
   unfolding looked_up
   d_tx_ceased_is = one D_TX_CEASED 0x3 EventKind.d_tx_ceased refl d_tx_ceased_reads (eqb (length bytes) 6) refl
 
-  d_tx_interrupt-reads : Reads D_TX_INTERRUPT EventKind.d_tx_interrupt (I ∷ G ∷ [])
+  d_tx_interrupt_reads : Reads D_TX_INTERRUPT EventKind.d_tx_interrupt (I ∷ G ∷ [])
   unfolding opened
-  d_tx_interrupt-reads = by-letters (I ∷ G ∷ []) D_TX_INTERRUPT (event_of EventKind.d_tx_interrupt) ((refl, λ x. refl), ((refl, λ x. refl), tt)) (λ vs. refl)
+  d_tx_interrupt_reads = by_letters (I ∷ G ∷ []) D_TX_INTERRUPT (event_of EventKind.d_tx_interrupt) ((refl, λ x. refl), ((refl, λ x. refl), tt)) (λ vs. refl)
 
-  d_tx_interrupt-is : body_by (entry_of EventKind.d_tx_interrupt) D_TX_INTERRUPT c bytes ≡ flatted c (read_as events (event_row EventKind.d_tx_interrupt).number bytes)
+  d_tx_interrupt_is : body_by (entry_of EventKind.d_tx_interrupt) D_TX_INTERRUPT c bytes ≡ flatted c (read_as events (event_row EventKind.d_tx_interrupt).number bytes)
   unfolding looked_up
-  d_tx_interrupt-is = one D_TX_INTERRUPT 0x93 EventKind.d_tx_interrupt refl d_tx_interrupt-reads (eqb (length bytes) 7) refl
+  d_tx_interrupt_is = one D_TX_INTERRUPT 0x93 EventKind.d_tx_interrupt refl d_tx_interrupt_reads (eqb (length bytes) 7) refl
 
-  d_tx_wait-reads : Reads D_TX_WAIT EventKind.d_tx_wait (I ∷ [])
+  d_tx_wait_reads : Reads D_TX_WAIT EventKind.d_tx_wait (I ∷ [])
   unfolding opened
-  d_tx_wait-reads = by-letters (I ∷ []) D_TX_WAIT (event_of EventKind.d_tx_wait) ((refl, λ x. refl), tt) (λ vs. refl)
+  d_tx_wait_reads = by_letters (I ∷ []) D_TX_WAIT (event_of EventKind.d_tx_wait) ((refl, λ x. refl), tt) (λ vs. refl)
 
-  d_tx_wait-is : body_by (entry_of EventKind.d_tx_wait) D_TX_WAIT c bytes ≡ flatted c (read_as events (event_row EventKind.d_tx_wait).number bytes)
+  d_tx_wait_is : body_by (entry_of EventKind.d_tx_wait) D_TX_WAIT c bytes ≡ flatted c (read_as events (event_row EventKind.d_tx_wait).number bytes)
   unfolding looked_up
-  d_tx_wait-is = one D_TX_WAIT 0x3 EventKind.d_tx_wait refl d_tx_wait-reads (eqb (length bytes) 6) refl
+  d_tx_wait_is = one D_TX_WAIT 0x3 EventKind.d_tx_wait refl d_tx_wait_reads (eqb (length bytes) 6) refl
 
-  d_tx_continue-reads : Reads D_TX_CONTINUE EventKind.d_tx_continue (I ∷ K ∷ [])
+  d_tx_continue_reads : Reads D_TX_CONTINUE EventKind.d_tx_continue (I ∷ K ∷ [])
   unfolding opened
-  d_tx_continue-reads = by-letters (I ∷ K ∷ []) D_TX_CONTINUE (event_of EventKind.d_tx_continue) ((refl, λ x. refl), ((refl, λ x. refl), tt)) (λ vs. refl)
+  d_tx_continue_reads = by_letters (I ∷ K ∷ []) D_TX_CONTINUE (event_of EventKind.d_tx_continue) ((refl, λ x. refl), ((refl, λ x. refl), tt)) (λ vs. refl)
 
-  d_tx_continue-is : body_by (entry_of EventKind.d_tx_continue) D_TX_CONTINUE c bytes ≡ flatted c (read_as events (event_row EventKind.d_tx_continue).number bytes)
+  d_tx_continue_is : body_by (entry_of EventKind.d_tx_continue) D_TX_CONTINUE c bytes ≡ flatted c (read_as events (event_row EventKind.d_tx_continue).number bytes)
   unfolding looked_up
-  d_tx_continue-is = one D_TX_CONTINUE 0x83 EventKind.d_tx_continue refl d_tx_continue-reads (eqb (length bytes) 7) refl
+  d_tx_continue_is = one D_TX_CONTINUE 0x83 EventKind.d_tx_continue refl d_tx_continue_reads (eqb (length bytes) 7) refl
 
   d_call_restore_reads : Reads D_CALL_RESTORE EventKind.d_call_restore (I ∷ G ∷ R ∷ O₁₆ ∷ [])
   unfolding opened
-  d_call_restore_reads = by-letters (I ∷ G ∷ R ∷ O₁₆ ∷ []) D_CALL_RESTORE (event_of EventKind.d_call_restore) ((refl, λ x. refl), ((refl, λ x. refl), ((refl, λ x. refl), ((refl, λ x. refl), tt)))) (λ vs. refl)
+  d_call_restore_reads = by_letters (I ∷ G ∷ R ∷ O₁₆ ∷ []) D_CALL_RESTORE (event_of EventKind.d_call_restore) ((refl, λ x. refl), ((refl, λ x. refl), ((refl, λ x. refl), ((refl, λ x. refl), tt)))) (λ vs. refl)
 
   d_call_restore_is : body_by (entry_of EventKind.d_call_restore) D_CALL_RESTORE c bytes ≡ flatted c (read_as events (event_row EventKind.d_call_restore).number bytes)
   unfolding looked_up
@@ -275,7 +275,7 @@ module _ (c : Call) (bytes : List ℕ) where
 
   d_disconnect_reads : Reads D_DISCONNECT EventKind.d_disconnect (I₀ ∷ [])
   unfolding opened
-  d_disconnect_reads = by-letters (I₀ ∷ []) D_DISCONNECT (event_of EventKind.d_disconnect) ((refl, λ x. refl), tt) (λ vs. refl)
+  d_disconnect_reads = by_letters (I₀ ∷ []) D_DISCONNECT (event_of EventKind.d_disconnect) ((refl, λ x. refl), tt) (λ vs. refl)
 
   d_disconnect_is : body_by (entry_of EventKind.d_disconnect) D_DISCONNECT c bytes ≡ flatted c (read_as events (event_row EventKind.d_disconnect).number bytes)
   unfolding looked_up
@@ -283,7 +283,7 @@ module _ (c : Call) (bytes : List ℕ) where
 
   d_release_reads : Reads D_RELEASE EventKind.d_release (I₀ ∷ [])
   unfolding opened
-  d_release_reads = by-letters (I₀ ∷ []) D_RELEASE (event_of EventKind.d_release) ((refl, λ x. refl), tt) (λ vs. refl)
+  d_release_reads = by_letters (I₀ ∷ []) D_RELEASE (event_of EventKind.d_release) ((refl, λ x. refl), tt) (λ vs. refl)
 
   d_release_is : body_by (entry_of EventKind.d_release) D_RELEASE c bytes ≡ flatted c (read_as events (event_row EventKind.d_release).number bytes)
   unfolding looked_up
@@ -291,7 +291,7 @@ module _ (c : Call) (bytes : List ℕ) where
 
   report_sent_reads : Reads REPORT_SENT EventKind.report_sent []
   unfolding opened
-  report_sent_reads = by-letters [] REPORT_SENT (event_of EventKind.report_sent) tt (λ vs. refl)
+  report_sent_reads = by_letters [] REPORT_SENT (event_of EventKind.report_sent) tt (λ vs. refl)
 
   report_sent_is : body_by (entry_of EventKind.report_sent) REPORT_SENT c bytes ≡ flatted c (read_as events (event_row EventKind.report_sent).number bytes)
   unfolding looked_up
@@ -299,27 +299,27 @@ module _ (c : Call) (bytes : List ℕ) where
 
   report_failed_reads : Reads REPORT_FAILED EventKind.report_failed []
   unfolding opened
-  report_failed_reads = by-letters [] REPORT_FAILED (event_of EventKind.report_failed) tt (λ vs. refl)
+  report_failed_reads = by_letters [] REPORT_FAILED (event_of EventKind.report_failed) tt (λ vs. refl)
 
   report_failed_is : body_by (entry_of EventKind.report_failed) REPORT_FAILED c bytes ≡ flatted c (read_as events (event_row EventKind.report_failed).number bytes)
   unfolding looked_up
   report_failed_is = one REPORT_FAILED 0x0 EventKind.report_failed refl report_failed_reads (eqb (length bytes) 4) refl
 
-  break-reads : Reads BREAK EventKind.break []
+  break_reads : Reads BREAK EventKind.break []
   unfolding opened
-  break-reads = by-letters [] BREAK (event_of EventKind.break) tt (λ vs. refl)
+  break_reads = by_letters [] BREAK (event_of EventKind.break) tt (λ vs. refl)
 
-  break-is : body_by (entry_of EventKind.break) BREAK c bytes ≡ flatted c (read_as events (event_row EventKind.break).number bytes)
+  break_is : body_by (entry_of EventKind.break) BREAK c bytes ≡ flatted c (read_as events (event_row EventKind.break).number bytes)
   unfolding looked_up
-  break-is = one BREAK 0x0 EventKind.break refl break-reads (eqb (length bytes) 4) refl
+  break_is = one BREAK 0x0 EventKind.break refl break_reads (eqb (length bytes) 4) refl
 
-  resume-reads : Reads RESUME EventKind.resume []
+  resume_reads : Reads RESUME EventKind.resume []
   unfolding opened
-  resume-reads = by-letters [] RESUME (event_of EventKind.resume) tt (λ vs. refl)
+  resume_reads = by_letters [] RESUME (event_of EventKind.resume) tt (λ vs. refl)
 
-  resume-is : body_by (entry_of EventKind.resume) RESUME c bytes ≡ flatted c (read_as events (event_row EventKind.resume).number bytes)
+  resume_is : body_by (entry_of EventKind.resume) RESUME c bytes ≡ flatted c (read_as events (event_row EventKind.resume).number bytes)
   unfolding looked_up
-  resume-is = one RESUME 0x0 EventKind.resume refl resume-reads (eqb (length bytes) 4) refl
+  resume_is = one RESUME 0x0 EventKind.resume refl resume_reads (eqb (length bytes) 4) refl
 
   -- the timer's number: one of seven, or wrong
   no_timer : (b : Bool) (x : ℕ) → timer_place x ≡ 7 → timed EXPIRY (cond b (is (set (slots c) TIMER x)) (bad_at 4)) ≡ refused 4 4
@@ -351,41 +351,41 @@ module _ (c : Call) (bytes : List ℕ) where
       (by_test (eqb x 311) (λ t. rw (eqb-true x 311 t) refl) (λ f7.
       no_timer (within 0 65535 x) x (no_place x f1 f2 f3 f4 f5 f6 f7) ∙ ap (expiry_at x) (sym (not_timer x f1 f2 f3 f4 f5 f6 f7)))))))))))))))
 
-  expiry-reads : Reads EXPIRY EventKind.expiry (N ∷ [])
+  expiry_reads : Reads EXPIRY EventKind.expiry (N ∷ [])
   unfolding opened fill fill_by values_at value_at
-  expiry-reads = by_number_lem (number 2 bytes 4)
+  expiry_reads = by_number_lem (number 2 bytes 4)
 
-  expiry-is : body_by (entry_of EventKind.expiry) EXPIRY c bytes ≡ flatted c (read_as events (event_row EventKind.expiry).number bytes)
+  expiry_is : body_by (entry_of EventKind.expiry) EXPIRY c bytes ≡ flatted c (read_as events (event_row EventKind.expiry).number bytes)
   unfolding looked_up
-  expiry-is = one EXPIRY 0x5 EventKind.expiry refl expiry-reads (eqb (length bytes) 6) refl
+  expiry_is = one EXPIRY 0x5 EventKind.expiry refl expiry_reads (eqb (length bytes) 6) refl
 
   body_is : (x : EventKind) → body_by (entry_of x) (number_of x) c bytes ≡ flatted c (read_as events (event_row x).number bytes)
-  body_is EventKind.setup_request = setup_request-is
-  body_is EventKind.setup_request_slots = setup_request-is
-  body_is EventKind.setup_response = setup_response-is
-  body_is EventKind.release_request = release_request-is
+  body_is EventKind.setup_request = setup_request_is
+  body_is EventKind.setup_request_slots = setup_request_is
+  body_is EventKind.setup_response = setup_response_is
+  body_is EventKind.release_request = release_request_is
   body_is EventKind.tx_request = tx_request_is
   body_is EventKind.d_call_proceeding = d_call_proceeding_is
-  body_is EventKind.d_alert = d_alert-is
-  body_is EventKind.d_connect = d_connect-is
-  body_is EventKind.d_connect_slots = d_connect-is
-  body_is EventKind.d_connect_acknowledge = d_connect_acknowledge-is
-  body_is EventKind.d_setup = d_setup-is
+  body_is EventKind.d_alert = d_alert_is
+  body_is EventKind.d_connect = d_connect_is
+  body_is EventKind.d_connect_slots = d_connect_is
+  body_is EventKind.d_connect_acknowledge = d_connect_acknowledge_is
+  body_is EventKind.d_setup = d_setup_is
   body_is EventKind.d_info = d_info_is
   body_is EventKind.d_info_slots = d_info_is
   body_is EventKind.d_tx_granted = d_tx_granted_is
   body_is EventKind.d_tx_ceased = d_tx_ceased_is
-  body_is EventKind.d_tx_interrupt = d_tx_interrupt-is
-  body_is EventKind.d_tx_wait = d_tx_wait-is
-  body_is EventKind.d_tx_continue = d_tx_continue-is
+  body_is EventKind.d_tx_interrupt = d_tx_interrupt_is
+  body_is EventKind.d_tx_wait = d_tx_wait_is
+  body_is EventKind.d_tx_continue = d_tx_continue_is
   body_is EventKind.d_call_restore = d_call_restore_is
   body_is EventKind.d_disconnect = d_disconnect_is
   body_is EventKind.d_release = d_release_is
   body_is EventKind.report_sent = report_sent_is
   body_is EventKind.report_failed = report_failed_is
-  body_is EventKind.break = break-is
-  body_is EventKind.resume = resume-is
-  body_is EventKind.expiry = expiry-is
+  body_is EventKind.break = break_is
+  body_is EventKind.resume = resume_is
+  body_is EventKind.expiry = expiry_is
 
 -- which entry
 
@@ -425,10 +425,10 @@ at_map f [] j h = absurd (not-suc-le-zero h)
 at_map f (x ∷ ks) zero h = refl
 at_map f (x ∷ ks) (suc j) h = at_map f ks j (le_of_suc-le-suc h)
 
-at-kind : (p : EventKind → Bool) (ks : List EventKind) → every p ks ≡ true → (j : ℕ) → j < length ks → p (kind_at j ks) ≡ true
-at-kind p [] t j h = absurd (not-suc-le-zero h)
-at-kind p (x ∷ ks) t zero h = (both (p x) (every p ks) t).0
-at-kind p (x ∷ ks) t (suc j) h = at-kind p ks (both (p x) (every p ks) t).1 j (le_of_suc-le-suc h)
+at_kind : (p : EventKind → Bool) (ks : List EventKind) → every p ks ≡ true → (j : ℕ) → j < length ks → p (kind_at j ks) ≡ true
+at_kind p [] t j h = absurd (not-suc-le-zero h)
+at_kind p (x ∷ ks) t zero h = (both (p x) (every p ks) t).0
+at_kind p (x ∷ ks) t (suc j) h = at_kind p ks (both (p x) (every p ks) t).1 j (le_of_suc-le-suc h)
 
 -- numbered one after the other
 abbrev counted : ℕ → List EventKind → Bool
@@ -447,19 +447,19 @@ number_is : (j : ℕ) → j < 23 → number_of (kind_at j lines) ≡ j
 number_is j h = omega (arith, at_count lines 0 j refl h)
 
 -- an entry has its kind's number
-named-at : (j : ℕ) → j < 23 → kind_of (get_or entries (suc j) 0) ≡ (event_row (kind_at j lines)).number
-named-at j h =
-    let same = eqb-true _ _ (at-kind (λ x. eqb (event_row x).number (kind_of (entry_of x))) lines refl j h) in
+named_at : (j : ℕ) → j < 23 → kind_of (get_or entries (suc j) 0) ≡ (event_row (kind_at j lines)).number
+named_at j h =
+    let same = eqb-true _ _ (at_kind (λ x. eqb (event_row x).number (kind_of (entry_of x))) lines refl j h) in
     ap kind_of (entry_at j h) ∙ sym same
 
 -- the first entry is no kind's
-behind-first : (p m : ℕ) → m % 256 ≤ p → kind_of (get_or entries p 0) ≡ m → 0 < p
-behind-first zero m h e = absurd (omega arith)
-behind-first (suc p) m h e = omega arith
+behind_first : (p m : ℕ) → m % 256 ≤ p → kind_of (get_or entries p 0) ≡ m → 0 < p
+behind_first zero m h e = absurd (omega arith)
+behind_first (suc p) m h e = omega arith
 
 pub not_first : (m : ℕ) → kind_of (get_or entries (place_of m) 0) ≡ m → 0 < place_of m
 unfolding place_of
-not_first m e = behind-first (place_of m) m (omega arith) e
+not_first m e = behind_first (place_of m) m (omega arith) e
 
 -- a number that its place does not lead to is no kind's
 abbrev led : ℕ → Bool
@@ -483,9 +483,9 @@ retired : (m : ℕ) (c : Call) (s : List ℕ) → eqb m RETIRED ≡ true → ref
 unfolding read_as
 retired m c s r = rw r refl
 
-pub kind-is : (m : ℕ) (c : Call) (s : List ℕ) → kind_by m c s ≡ flatted c (read_as events m s)
+pub kind_is : (m : ℕ) (c : Call) (s : List ℕ) → kind_by m c s ≡ flatted c (read_as events m s)
 unfolding kind_by
-kind-is m c s =
+kind_is m c s =
     by_test (eqb m RETIRED) (λ r. rw r (retired m c s r))
     (λ current. by_test (leb (place_of m) 23)
     (λ small. by_test (eqb (kind_of (get_or entries (place_of m) 0)) m)
@@ -496,7 +496,7 @@ kind-is m c s =
     let back : place_of m ≡ suc (place_of m - 1) = omega arith in
     let x : EventKind = kind_at (place_of m - 1) lines in
     let entry : get_or entries (place_of m) 0 ≡ entry_of x = ap (λ (w : ℕ). get_or entries w 0) back ∙ entry_at (place_of m - 1) below in
-    let number : (event_row x).number ≡ m = sym (named-at (place_of m - 1) below) ∙ ap (λ (w : ℕ). kind_of (get_or entries w 0)) (sym back) ∙ e in
+    let number : (event_row x).number ≡ m = sym (named_at (place_of m - 1) below) ∙ ap (λ (w : ℕ). kind_of (get_or entries w 0)) (sym back) ∙ e in
     rw (current, small, same)
     (ap (λ (w : ℕ). body_by w (place_of m - 1) c s) entry
     ∙ ap (λ (w : ℕ). body_by (entry_of x) w c s) (sym (number_is (place_of m - 1) below))

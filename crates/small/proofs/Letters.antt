@@ -10,7 +10,7 @@ use lib.ListN.{length, length-append, get_or}
 use lib.Seq.{length-sets}
 use Rattle.records.specs.Bytes.{bytes}
 use Rattle.records.specs.Bodies.{Stored}
-use Rattle.records.proofs.Laws.{both, length-bytes, stored-then}
+use Rattle.records.proofs.Laws.{both, length-bytes, stored_then}
 use Rattle.small.specs.Entry.{width_of, spell, spelled, body, entry_bytes}
 
 abbrev power : ℕ → ℕ
@@ -44,9 +44,9 @@ unfolding spell
 no_letters zero n h = refl
 no_letters (suc k) n h = rw (eq-eqb n 0 h) refl
 
-pub a-letter : (n : ℕ) → n < 0x10000 → 0 < n → spelled (spell 4 n) ≡ true → (n % 16 < 10) × (spelled (spell 4 (n / 16)) ≡ true)
+pub a_letter : (n : ℕ) → n < 0x10000 → 0 < n → spelled (spell 4 n) ≡ true → (n % 16 < 10) × (spelled (spell 4 (n / 16)) ≡ true)
 unfolding spelled
-a-letter n h some ok =
+a_letter n h some ok =
     let w = both _ _ (rw (first n h some) at ok) in
     (ltb-true _ _ w.0, w.1)
 
@@ -55,7 +55,7 @@ pub one_letter : {old mid new : List ℕ} {at next end : ℕ} (n : ℕ) (v : Lis
     → Stored old at (bytes (width_of (n % 16)) (get_or v (n % 16) 0)) next mid → Stored mid next (body (spell 4 (n / 16)) v) end new
     → Stored old at (body (spell 4 n) v) end new
 unfolding body
-one_letter n v h some p q = rw (first n h some) (stored-then p q)
+one_letter n v h some p q = rw (first n h some) (stored_then p q)
 
 -- they are few
 
@@ -73,16 +73,16 @@ few false l k rest v h =
     omega
     (arith, length-append (bytes (width_of l) (get_or v l 0)) (body rest v), length-bytes (width_of l) (get_or v l 0), width_small (eqb l 0) (eqb l 1) (eqb l 2) (eqb l 6))
 
-body-small : (k n : ℕ) (v : List ℕ) → length (body (spell k n) v) ≤ 4 * k
+body_small : (k n : ℕ) (v : List ℕ) → length (body (spell k n) v) ≤ 4 * k
 unfolding body spell
-body-small zero n v = omega arith
-body-small (suc k) n v = few (eqb n 0) (n % 16) k (spell k (n / 16)) v (body-small k (n / 16) v)
+body_small zero n v = omega arith
+body_small (suc k) n v = few (eqb n 0) (n % 16) k (spell k (n / 16)) v (body_small k (n / 16) v)
 
 pub entry_small : (n : ℕ) (v : List ℕ) → length (entry_bytes n v) ≤ 20
 unfolding entry_bytes
 entry_small n v =
     omega
-    (arith, length-append (bytes 4 (n / 0x10000 % 16 + n / 0x100000 * 0x10000)) (body (spell 4 (n % 0x10000)) v), length-bytes 4 (n / 0x10000 % 16 + n / 0x100000 * 0x10000), body-small 4 (n % 0x10000) v)
+    (arith, length-append (bytes 4 (n / 0x10000 % 16 + n / 0x100000 * 0x10000)) (body (spell 4 (n % 0x10000)) v), length-bytes 4 (n / 0x10000 % 16 + n / 0x100000 * 0x10000), body_small 4 (n % 0x10000) v)
 
-pub same-room : {old new xs : List ℕ} {at end : ℕ} → Stored old at xs end new → length new ≡ length old
-same-room {old} {new} {xs} {at} s = rw s.now (length-sets old at xs)
+pub same_room : {old new xs : List ℕ} {at end : ℕ} → Stored old at xs end new → length new ≡ length old
+same_room {old} {new} {xs} {at} s = rw s.now (length-sets old at xs)

@@ -25,11 +25,11 @@ own_fits {own₀} {own} {v} s most room =
     let l : length own ≡ length own₀ = ap length s.now ∙ length-sets own₀ 0 v in
     omega arith
 
-pub front-size : (n : ℕ) (own : List ℕ) → n ≤ length own → n ≡ length (take n own)
-front-size n own fits = sym (length-take-le n own fits)
+pub front_size : (n : ℕ) (own : List ℕ) → n ≤ length own → n ≡ length (take n own)
+front_size n own fits = sym (length-take-le n own fits)
 
-pub front-within : (n : ℕ) (own b : List ℕ) → n ≤ length own → n ≤ length b → length (take n own) ≤ length b
-front-within n own b fits room = let s = front-size n own fits in omega arith
+pub front_within : (n : ℕ) (own b : List ℕ) → n ≤ length own → n ≤ length b → length (take n own) ≤ length b
+front_within n own b fits room = let s = front_size n own fits in omega arith
 
 -- what is copied is what was laid
 copied : (b : List ℕ) {own₀ own now v : List ℕ} {size : ℕ} → Stored own₀ 0 v size own → size ≤ length b → size ≤ length own
@@ -54,9 +54,9 @@ module _ (c : Call) (r : Row) (seven : length c.timers ≡ 7) where
   unfolding settled next_by code_of
   code_is = by_test (eqb (r.orders % 16) 7) (λ e. rw e refl) (λ e. rw e refl)
 
-  whole-laid : laid ≡ bytes_of (messages_in (settled c r))
+  whole_laid : laid ≡ bytes_of (messages_in (settled c r))
   unfolding bytes_by settled
-  whole-laid =
+  whole_laid =
       bits_are r.orders r.code r.value plane (values_by (code_of r.orders r.code) plane r) c.timers seven
       ∙ ap
       (λ (o : ℕ). places_from 18 0 (number_at (timing_by r.orders r.code c.timers plane).stops (timing_by r.orders r.code c.timers plane).starts r.orders r.value plane) (values_by o plane r))
@@ -64,7 +64,7 @@ module _ (c : Call) (r : Row) (seven : length c.timers ≡ 7) where
       ∙ whole c r
 
   pub sized : {own₀ own : List ℕ} {size : ℕ} → Stored own₀ 0 laid size own → size ≡ length (bytes_of (messages_in (settled c r)))
-  sized s = s.end ∙ zero-add (length laid) ∙ ap length whole-laid
+  sized s = s.end ∙ zero-add (length laid) ∙ ap length whole_laid
 
   pub carries : (b : List ℕ) {own₀ own now : List ℕ} {size : ℕ} (running : List Bool) → Stored own₀ 0 laid size own → running ≡ turns r.orders r.code plane 18 0 c.timers
       → size ≤ length b → size ≤ length own → now ≡ take (length (take size own)) (take size own) ++ drop (length (take size own)) b
@@ -72,4 +72,4 @@ module _ (c : Call) (r : Row) (seven : length c.timers ≡ 7) where
   unfolding settled
   carries b {own₀} {own} {now} {size} running s ran room fits is =
       rw (ran, runs_are r.orders r.code plane c.timers seven)
-      (fitting c (settled c r) b now size (sized s) room (copied b s room fits is ∙ ap (λ (v : List ℕ). sets b 0 v) whole-laid))
+      (fitting c (settled c r) b now size (sized s) room (copied b s room fits is ∙ ap (λ (v : List ℕ). sets b 0 v) whole_laid))

@@ -11,7 +11,7 @@ use lib.ListN.{length, get_or, set}
 use lib.Seq.{get_or-set_other}
 use Rattle.records.specs.Bodies.{Stored}
 use Rattle.records.specs.Laws.{every}
-use Rattle.records.proofs.Laws.{by_test, both, stored-none, stored-then}
+use Rattle.records.proofs.Laws.{by_test, both, stored_none, stored_then}
 use Rattle.small.specs.Entry.{spell, spelled, entry_bytes, entries}
 use Rattle.small.specs.Places.{timer_at, values_for, Alike, place_bytes, places_from, runs_of, turned, turns, number_in}
 
@@ -21,9 +21,9 @@ at_entry p [] t k h = absurd (not-suc-le-zero h)
 at_entry p (x ∷ xs) t zero h = (both (p x) (every p xs) t).0
 at_entry p (x ∷ xs) t (suc k) h = at_entry p xs (both (p x) (every p xs) t).1 k (le_of_suc-le-suc h)
 
-pub entries-spell : (n : ℕ) → n < 22 → spelled (spell 4 (get_or entries n 0 % 0x10000)) ≡ true
+pub entries_spell : (n : ℕ) → n < 22 → spelled (spell 4 (get_or entries n 0 % 0x10000)) ≡ true
 unfolding spelled spell
-entries-spell n h = at_entry (λ e. spelled (spell 4 (e % 0x10000))) entries refl n h
+entries_spell n h = at_entry (λ e. spelled (spell 4 (e % 0x10000))) entries refl n h
 
 -- a place's own two values are stored over those of another
 again : (t c u d : ℕ) (v : List ℕ) → set (set (set (set v 6 t) 7 c) 6 u) 7 d ≡ set (set v 6 u) 7 d
@@ -54,12 +54,12 @@ alike_then p q = record { is = λ k. p.is k ∙ q.is k }
 
 pub no_place : {b : List ℕ} {at : ℕ} (k n : ℕ) (v : List ℕ) → n ≡ 0 → Stored b at (place_bytes k n v) at b
 unfolding place_bytes
-no_place k n v h = rw (eq-eqb n 0 h) stored-none
+no_place k n v h = rw (eq-eqb n 0 h) stored_none
 
-pub a-place : {old new : List ℕ} {at end : ℕ} (k n : ℕ) (v : List ℕ) → 0 < n → Stored old at (entry_bytes (get_or entries n 0) (values_for k v)) end new
+pub a_place : {old new : List ℕ} {at end : ℕ} (k n : ℕ) (v : List ℕ) → 0 < n → Stored old at (entry_bytes (get_or entries n 0) (values_for k v)) end new
     → Stored old at (place_bytes k n v) end new
 unfolding place_bytes
-a-place k n v h s = rw (ne_eqb n 0 (λ z. absurd (omega arith))) s
+a_place k n v h s = rw (ne_eqb n 0 (λ z. absurd (omega arith))) s
 
 -- one place, and those after it
 pub next_place : {old mid new : List ℕ} {at next end : ℕ} (k : ℕ) (f : ℕ → ℕ) (v w : List ℕ) → k < 18 → Alike v w
@@ -69,7 +69,7 @@ unfolding places_from place_bytes
 next_place k f v w h same p q =
     let left : 18 - k ≡ suc (18 - (k + 1)) = omega arith in
     let one : suc k ≡ k + 1 = omega arith in
-    rw left (stored-then (rw (same.is k) at p) (rw one q))
+    rw left (stored_then (rw (same.is k) at p) (rw one q))
 
 -- a turn leaves the timers of later places as they were
 pub later : (n code p k j : ℕ) (t : List Bool) → k < j → get_or (turned n code p k t) j false ≡ get_or t j false
@@ -80,9 +80,9 @@ later n code p k j t h =
     (λ e. rw e refl)
 
 -- one turn, and those after it
-pub next-turn : (n code p k : ℕ) (t : List Bool) → k < 18 → turns n code p (18 - (k + 1)) (k + 1) (turned n code p k t) ≡ turns n code p (18 - k) k t
+pub next_turn : (n code p k : ℕ) (t : List Bool) → k < 18 → turns n code p (18 - (k + 1)) (k + 1) (turned n code p k t) ≡ turns n code p (18 - k) k t
 unfolding turns
-next-turn n code p k t h =
+next_turn n code p k t h =
     let left : 18 - k ≡ suc (18 - (k + 1)) = omega arith in
     let one : suc k ≡ k + 1 = omega arith in
     rw (left, ← one) refl

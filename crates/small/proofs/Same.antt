@@ -19,7 +19,7 @@ use Rattle.callcontrol.specs.Rows.{idle, mo_call_setup, mt_call_setup, demands, 
 use Rattle.callcontrol.specs.Rows.{in_state as state_row}
 use Rattle.callcontrol.specs.Settle.{draft_of, none_row, row_of, STAY, CANCEL, STOP_303, RELEASE_CONFIRM, RELEASE_INDICATION, OVER, U_CONNECT, START_301, restarting, code_after, slots_after}
 use Rattle.callcontrol.proofs.Verbs.{verbs}
-use Rattle.callcontrol.proofs.Settled.{numbers, none_is, releasing-is, released-is, disconnected-is, timed_out_301_is, timed_out_302_is, timed_out_303_is, timed_out_306_is, timed_out_310_is, setup_request_is, d_setup_is, proceeding_is, alert-is, connected-is, reported_is, acknowledged_is, demanded_is, ceased_is, withdrawn_is, informed-same-is, informed_other_is, granted-is, tx_ceased_is, interrupted_for_is, interrupted_is, paused_is, cut-is, spoken_out_is, reasked_is, resumed_is, restored-is, broken-again-is, continued_is, continued_off_is, pause_cut_is, disconnected-unsent-is, released-unsent-is, confirmed-is, confirmed-late-is}
+use Rattle.callcontrol.proofs.Settled.{numbers, none_is, releasing_is, released_is, disconnected_is, timed_out_301_is, timed_out_302_is, timed_out_303_is, timed_out_306_is, timed_out_310_is, setup_request_is, d_setup_is, proceeding_is, alert_is, connected_is, reported_is, acknowledged_is, demanded_is, ceased_is, withdrawn_is, informed_same_is, informed_other_is, granted_is, tx_ceased_is, interrupted_for_is, interrupted_is, paused_is, cut_is, spoken_out_is, reasked_is, resumed_is, restored_is, broken_again_is, continued_is, continued_off_is, pause_cut_is, disconnected_unsent_is, released_unsent_is, confirmed_is, confirmed_late_is}
 use Rattle.small.specs.declared.flat.Flat.{Flat}
 use Rattle.small.specs.Flat.{SETUP_RESPONSE, RELEASE_REQUEST, TX_REQUEST, D_CONNECT_ACKNOWLEDGE, D_INFO, D_TX_INTERRUPT, D_TX_CONTINUE, D_DISCONNECT, D_RELEASE, REPORT_SENT, REPORT_FAILED, EXPIRY, EXPIRY_308, EXPIRY_311, EXPIRY_NONE, late, flat_of, expired_of, bare, named, flat}
 use Rattle.small.specs.Table.{AT_IDLE, AT_MO, AT_MT, AT_UP, AT_BROKEN, AT_RESTORING, AT_WAIT, AT_DISCONNECT, on_path, in_state, facts_of, fits, first_of, rows}
@@ -73,9 +73,9 @@ past : (G : Flat → Draft) (F : ℕ → Draft) (n m : ℕ) (b : Bool) → eqb n
 past G F n m true e p q = p ∙ ap F (sym (eqb-true n m e))
 past G F n m false e p q = q e
 
-by-timer : (c : Call) (n : ℕ) (G : Flat → Draft) (F : ℕ → Draft) → G (late EXPIRY_311 c T311) ≡ F 311 → G (late EXPIRY_308 c T308) ≡ F 308 → G (late EXPIRY c T301) ≡ F 301 → G (late EXPIRY c T302) ≡ F 302 → G (late EXPIRY c T303) ≡ F 303 → G (late EXPIRY c T306) ≡ F 306 → G (late EXPIRY c T310) ≡ F 310 → (eqb n 311 ≡ false → eqb n 308 ≡ false → eqb n 301 ≡ false → eqb n 302 ≡ false → eqb n 303 ≡ false → eqb n 306 ≡ false → eqb n 310 ≡ false → G (late EXPIRY_NONE c T301) ≡ F n) → G (expired_of c n) ≡ F n
+by_timer : (c : Call) (n : ℕ) (G : Flat → Draft) (F : ℕ → Draft) → G (late EXPIRY_311 c T311) ≡ F 311 → G (late EXPIRY_308 c T308) ≡ F 308 → G (late EXPIRY c T301) ≡ F 301 → G (late EXPIRY c T302) ≡ F 302 → G (late EXPIRY c T303) ≡ F 303 → G (late EXPIRY c T306) ≡ F 306 → G (late EXPIRY c T310) ≡ F 310 → (eqb n 311 ≡ false → eqb n 308 ≡ false → eqb n 301 ≡ false → eqb n 302 ≡ false → eqb n 303 ≡ false → eqb n 306 ≡ false → eqb n 310 ≡ false → G (late EXPIRY_NONE c T301) ≡ F n) → G (expired_of c n) ≡ F n
 unfolding expired_of
-by-timer c n G F p311 p308 p301 p302 p303 p306 p310 rest =
+by_timer c n G F p311 p308 p301 p302 p303 p306 p310 rest =
     past G F n 311 (eqb n 311) refl p311
     (λ e311. past G F n 308 (eqb n 308) refl p308
     (λ e308. past G F n 301 (eqb n 301) refl p301
@@ -94,17 +94,17 @@ end0 c x i a m q o s v d p = rw (add-zero x) p
 
 -- rows that Settled says with their guard
 
-takes-back-is : (c : Call) → draft_of c (row_of c (CANCEL + STOP_303 + RELEASE_CONFIRM + OVER) 0) ≡ draft c ▷ cancel ▷ stop T303 ▷ tell Message.ReleaseConfirm ▷ over
+takes_back_is : (c : Call) → draft_of c (row_of c (CANCEL + STOP_303 + RELEASE_CONFIRM + OVER) 0) ≡ draft c ▷ cancel ▷ stop T303 ▷ tell Message.ReleaseConfirm ▷ over
 unfolding verbs numbers
-takes-back-is c = refl
+takes_back_is c = refl
 
 fails_is : (c : Call) → draft_of c (row_of c (STOP_303 + RELEASE_INDICATION + OVER) 4) ≡ draft c ▷ stop T303 ▷ tell (Message.ReleaseIndication 4) ▷ over
 unfolding verbs numbers
 fails_is c = refl
 
-answers-is : (c : Call) → draft_of c (row_of c (STAY + U_CONNECT + START_301) 0) ≡ draft c ▷ say (Message.UConnect c.id) ▷ start T301
+answers_is : (c : Call) → draft_of c (row_of c (STAY + U_CONNECT + START_301) 0) ≡ draft c ▷ say (Message.UConnect c.id) ▷ start T301
 unfolding verbs numbers
-answers-is c = refl
+answers_is c = refl
 
 abbrev transmit : Call → ℕ → Bool → Bool → Bool → Draft
 transmit c k u v w =
@@ -138,17 +138,17 @@ in_idle c Event.ReportSent = none_is c
 in_idle c Event.ReportFailed = none_is c
 in_idle c Event.Break = none_is c
 in_idle c Event.Resume = none_is c
-in_idle c (Event.Expiry n) = by-timer c n (of AT_IDLE c) (λ m. no_row c) (none_is c) (none_is c) (none_is c) (none_is c) (none_is c) (none_is c) (none_is c) (λ e311 e308 e301 e302 e303 e306 e310. none_is c)
+in_idle c (Event.Expiry n) = by_timer c n (of AT_IDLE c) (λ m. no_row c) (none_is c) (none_is c) (none_is c) (none_is c) (none_is c) (none_is c) (none_is c) (λ e311 e308 e301 e302 e303 e306 e310. none_is c)
 
 in_mo : (c : Call) (e : Event) → of AT_MO c (flat_of c e) ≡ mo_call_setup c e
 unfolding line mo_call_setup expiry timed_out
 in_mo c (Event.SetupRequest a d q s) = none_is c
 in_mo c Event.SetupResponse = none_is c
-in_mo c Event.ReleaseRequest = pick (with AT_MO c (bare RELEASE_REQUEST c) 1) (eqb c.sent 0) (takes-back-is c) (releasing-is c)
+in_mo c Event.ReleaseRequest = pick (with AT_MO c (bare RELEASE_REQUEST c) 1) (eqb c.sent 0) (takes_back_is c) (releasing_is c)
 in_mo c (Event.TxRequest k) = none_is c
 in_mo c (Event.DCallProceeding i) = proceeding_is c i
-in_mo c (Event.DAlert i) = alert-is c i
-in_mo c (Event.DConnect i g d o s) = end0 c _ _ _ _ _ _ _ _ _ (connected-is c i g d o s)
+in_mo c (Event.DAlert i) = alert_is c i
+in_mo c (Event.DConnect i g d o s) = end0 c _ _ _ _ _ _ _ _ _ (connected_is c i g d o s)
 in_mo c (Event.DConnectAcknowledge i g o) = none_is c
 in_mo c (Event.DSetup i a d) = none_is c
 in_mo c (Event.DInfo i r o d s) = none_is c
@@ -158,19 +158,19 @@ in_mo c (Event.DTxInterrupt i g) = none_is c
 in_mo c (Event.DTxWait i) = none_is c
 in_mo c (Event.DTxContinue i k) = none_is c
 in_mo c (Event.DCallRestore i g r o) = none_is c
-in_mo c (Event.DDisconnect i) = disconnected-is c i
-in_mo c (Event.DRelease i) = released-is c
+in_mo c (Event.DDisconnect i) = disconnected_is c i
+in_mo c (Event.DRelease i) = released_is c
 in_mo c Event.ReportSent = pick (with AT_MO c (bare REPORT_SENT c) 1) (eqb c.sent 0) (reported_is c) (none_is c)
 in_mo c Event.ReportFailed = pick (with AT_MO c (bare REPORT_FAILED c) 1) (eqb c.sent 0) (fails_is c) (none_is c)
 in_mo c Event.Break = none_is c
 in_mo c Event.Resume = none_is c
-in_mo c (Event.Expiry n) = by-timer c n (of AT_MO c) (λ m. expiry m c) (none_is c) (none_is c) (pick (with AT_MO c (late EXPIRY c T301) 0) (runs c T301) (timed_out_301_is c) (none_is c)) (pick (with AT_MO c (late EXPIRY c T302) 0) (runs c T302) (timed_out_302_is c) (none_is c)) (pick (with AT_MO c (late EXPIRY c T303) 0) (runs c T303) (timed_out_303_is c) (none_is c)) (pick (with AT_MO c (late EXPIRY c T306) 0) (runs c T306) (timed_out_306_is c) (none_is c)) (pick (with AT_MO c (late EXPIRY c T310) 0) (runs c T310) (timed_out_310_is c) (none_is c)) (λ e311 e308 e301 e302 e303 e306 e310. none_is c ∙ sym (no_timer c n e301 e302 e303 e306 e310))
+in_mo c (Event.Expiry n) = by_timer c n (of AT_MO c) (λ m. expiry m c) (none_is c) (none_is c) (pick (with AT_MO c (late EXPIRY c T301) 0) (runs c T301) (timed_out_301_is c) (none_is c)) (pick (with AT_MO c (late EXPIRY c T302) 0) (runs c T302) (timed_out_302_is c) (none_is c)) (pick (with AT_MO c (late EXPIRY c T303) 0) (runs c T303) (timed_out_303_is c) (none_is c)) (pick (with AT_MO c (late EXPIRY c T306) 0) (runs c T306) (timed_out_306_is c) (none_is c)) (pick (with AT_MO c (late EXPIRY c T310) 0) (runs c T310) (timed_out_310_is c) (none_is c)) (λ e311 e308 e301 e302 e303 e306 e310. none_is c ∙ sym (no_timer c n e301 e302 e303 e306 e310))
 
 in_mt : (c : Call) (e : Event) → of AT_MT c (flat_of c e) ≡ mt_call_setup c e
 unfolding line mt_call_setup expiry timed_out
 in_mt c (Event.SetupRequest a d q s) = none_is c
-in_mt c Event.SetupResponse = pick_not (with AT_MT c (bare SETUP_RESPONSE c) 2) (runs c T301) (answers-is c) (none_is c)
-in_mt c Event.ReleaseRequest = releasing-is c
+in_mt c Event.SetupResponse = pick_not (with AT_MT c (bare SETUP_RESPONSE c) 2) (runs c T301) (answers_is c) (none_is c)
+in_mt c Event.ReleaseRequest = releasing_is c
 in_mt c (Event.TxRequest k) = none_is c
 in_mt c (Event.DCallProceeding i) = none_is c
 in_mt c (Event.DAlert i) = none_is c
@@ -184,45 +184,45 @@ in_mt c (Event.DTxInterrupt i g) = none_is c
 in_mt c (Event.DTxWait i) = none_is c
 in_mt c (Event.DTxContinue i k) = none_is c
 in_mt c (Event.DCallRestore i g r o) = none_is c
-in_mt c (Event.DDisconnect i) = disconnected-is c i
-in_mt c (Event.DRelease i) = released-is c
+in_mt c (Event.DDisconnect i) = disconnected_is c i
+in_mt c (Event.DRelease i) = released_is c
 in_mt c Event.ReportSent = none_is c
 in_mt c Event.ReportFailed = none_is c
 in_mt c Event.Break = none_is c
 in_mt c Event.Resume = none_is c
-in_mt c (Event.Expiry n) = by-timer c n (of AT_MT c) (λ m. expiry m c) (none_is c) (none_is c) (pick (with AT_MT c (late EXPIRY c T301) 0) (runs c T301) (timed_out_301_is c) (none_is c)) (pick (with AT_MT c (late EXPIRY c T302) 0) (runs c T302) (timed_out_302_is c) (none_is c)) (pick (with AT_MT c (late EXPIRY c T303) 0) (runs c T303) (timed_out_303_is c) (none_is c)) (pick (with AT_MT c (late EXPIRY c T306) 0) (runs c T306) (timed_out_306_is c) (none_is c)) (pick (with AT_MT c (late EXPIRY c T310) 0) (runs c T310) (timed_out_310_is c) (none_is c)) (λ e311 e308 e301 e302 e303 e306 e310. none_is c ∙ sym (no_timer c n e301 e302 e303 e306 e310))
+in_mt c (Event.Expiry n) = by_timer c n (of AT_MT c) (λ m. expiry m c) (none_is c) (none_is c) (pick (with AT_MT c (late EXPIRY c T301) 0) (runs c T301) (timed_out_301_is c) (none_is c)) (pick (with AT_MT c (late EXPIRY c T302) 0) (runs c T302) (timed_out_302_is c) (none_is c)) (pick (with AT_MT c (late EXPIRY c T303) 0) (runs c T303) (timed_out_303_is c) (none_is c)) (pick (with AT_MT c (late EXPIRY c T306) 0) (runs c T306) (timed_out_306_is c) (none_is c)) (pick (with AT_MT c (late EXPIRY c T310) 0) (runs c T310) (timed_out_310_is c) (none_is c)) (λ e311 e308 e301 e302 e303 e306 e310. none_is c ∙ sym (no_timer c n e301 e302 e303 e306 e310))
 
 in_up : (c : Call) (e : Event) → of AT_UP c (flat_of c e) ≡ active_up c e
 unfolding line active_up demands ceases active_expiry expiry timed_out
 in_up c (Event.SetupRequest a d q s) = none_is c
 in_up c Event.SetupResponse = none_is c
-in_up c Event.ReleaseRequest = releasing-is c
+in_up c Event.ReleaseRequest = releasing_is c
 in_up c (Event.TxRequest k) = asks_or_stops (transmit c k) (eqb k 1) (eqb c.asked 0 && (eqb c.plane 2 || eqb c.plane 4)) (eqb c.plane 1) (eqb c.asked 1) (λ u v. demanded_is c) (λ v. ceased_is c) (withdrawn_is c) (none_is c)
 in_up c (Event.DCallProceeding i) = none_is c
 in_up c (Event.DAlert i) = none_is c
 in_up c (Event.DConnect i g d o s) = none_is c
 in_up c (Event.DConnectAcknowledge i g o) = none_is c
 in_up c (Event.DSetup i a d) = none_is c
-in_up c (Event.DInfo i r o d s) = either (with AT_UP c (flat D_INFO c.address i d c.asked 0 r o s 0) 7) (eqb d c.mode) (λ e. informed-same-is c r o d s (eqb-true d c.mode e)) (λ e. informed_other_is c r o d s e)
-in_up c (Event.DTxGranted i g) = end0 c _ _ _ _ _ _ _ _ _ (granted-is c g)
+in_up c (Event.DInfo i r o d s) = either (with AT_UP c (flat D_INFO c.address i d c.asked 0 r o s 0) 7) (eqb d c.mode) (λ e. informed_same_is c r o d s (eqb-true d c.mode e)) (λ e. informed_other_is c r o d s e)
+in_up c (Event.DTxGranted i g) = end0 c _ _ _ _ _ _ _ _ _ (granted_is c g)
 in_up c (Event.DTxCeased i) = tx_ceased_is c
 in_up c (Event.DTxInterrupt i g) = both (with AT_UP c (flat D_TX_INTERRUPT c.address i c.mode c.asked g 0 c.code 0 0) 7) (λ b. draft c ▷ plane (cond b 2 4) ▷ tell (Message.TxIndication 5)) (eqb g 3) (interrupted_for_is c) (interrupted_is c)
 in_up c (Event.DTxWait i) = paused_is c
 in_up c (Event.DTxContinue i k) = none_is c
 in_up c (Event.DCallRestore i g r o) = none_is c
-in_up c (Event.DDisconnect i) = disconnected-is c i
-in_up c (Event.DRelease i) = released-is c
+in_up c (Event.DDisconnect i) = disconnected_is c i
+in_up c (Event.DRelease i) = released_is c
 in_up c Event.ReportSent = none_is c
 in_up c Event.ReportFailed = none_is c
-in_up c Event.Break = cut-is c
+in_up c Event.Break = cut_is c
 in_up c Event.Resume = none_is c
-in_up c (Event.Expiry n) = by-timer c n (of AT_UP c) (λ m. active_expiry m c) (pick (with AT_UP c (late EXPIRY_311 c T311) 0) (runs c T311) (spoken_out_is c) (none_is c)) (none_is c) (pick (with AT_UP c (late EXPIRY c T301) 0) (runs c T301) (timed_out_301_is c) (none_is c)) (pick (with AT_UP c (late EXPIRY c T302) 0) (runs c T302) (timed_out_302_is c) (none_is c)) (pick (with AT_UP c (late EXPIRY c T303) 0) (runs c T303) (timed_out_303_is c) (none_is c)) (pick (with AT_UP c (late EXPIRY c T306) 0) (runs c T306) (timed_out_306_is c) (none_is c)) (pick (with AT_UP c (late EXPIRY c T310) 0) (runs c T310) (timed_out_310_is c) (none_is c)) (λ e311 e308 e301 e302 e303 e306 e310. none_is c ∙ sym (rw e311 (no_timer c n e301 e302 e303 e306 e310)))
+in_up c (Event.Expiry n) = by_timer c n (of AT_UP c) (λ m. active_expiry m c) (pick (with AT_UP c (late EXPIRY_311 c T311) 0) (runs c T311) (spoken_out_is c) (none_is c)) (none_is c) (pick (with AT_UP c (late EXPIRY c T301) 0) (runs c T301) (timed_out_301_is c) (none_is c)) (pick (with AT_UP c (late EXPIRY c T302) 0) (runs c T302) (timed_out_302_is c) (none_is c)) (pick (with AT_UP c (late EXPIRY c T303) 0) (runs c T303) (timed_out_303_is c) (none_is c)) (pick (with AT_UP c (late EXPIRY c T306) 0) (runs c T306) (timed_out_306_is c) (none_is c)) (pick (with AT_UP c (late EXPIRY c T310) 0) (runs c T310) (timed_out_310_is c) (none_is c)) (λ e311 e308 e301 e302 e303 e306 e310. none_is c ∙ sym (rw e311 (no_timer c n e301 e302 e303 e306 e310)))
 
 in_broken : (c : Call) (e : Event) → of AT_BROKEN c (flat_of c e) ≡ active_broken c e
 unfolding line active_broken expiry timed_out
 in_broken c (Event.SetupRequest a d q s) = none_is c
 in_broken c Event.SetupResponse = none_is c
-in_broken c Event.ReleaseRequest = releasing-is c
+in_broken c Event.ReleaseRequest = releasing_is c
 in_broken c (Event.TxRequest k) = pick_not (with AT_BROKEN c (flat TX_REQUEST c.address c.id c.mode k 0 0 c.code 0 0) 6) (eqb c.asked k) (reasked_is c k) (none_is c)
 in_broken c (Event.DCallProceeding i) = none_is c
 in_broken c (Event.DAlert i) = none_is c
@@ -236,19 +236,19 @@ in_broken c (Event.DTxInterrupt i g) = none_is c
 in_broken c (Event.DTxWait i) = none_is c
 in_broken c (Event.DTxContinue i k) = none_is c
 in_broken c (Event.DCallRestore i g r o) = none_is c
-in_broken c (Event.DDisconnect i) = disconnected-is c i
-in_broken c (Event.DRelease i) = released-is c
+in_broken c (Event.DDisconnect i) = disconnected_is c i
+in_broken c (Event.DRelease i) = released_is c
 in_broken c Event.ReportSent = none_is c
 in_broken c Event.ReportFailed = none_is c
 in_broken c Event.Break = none_is c
 in_broken c Event.Resume = resumed_is c
-in_broken c (Event.Expiry n) = by-timer c n (of AT_BROKEN c) (λ m. expiry m c) (none_is c) (none_is c) (pick (with AT_BROKEN c (late EXPIRY c T301) 0) (runs c T301) (timed_out_301_is c) (none_is c)) (pick (with AT_BROKEN c (late EXPIRY c T302) 0) (runs c T302) (timed_out_302_is c) (none_is c)) (pick (with AT_BROKEN c (late EXPIRY c T303) 0) (runs c T303) (timed_out_303_is c) (none_is c)) (pick (with AT_BROKEN c (late EXPIRY c T306) 0) (runs c T306) (timed_out_306_is c) (none_is c)) (pick (with AT_BROKEN c (late EXPIRY c T310) 0) (runs c T310) (timed_out_310_is c) (none_is c)) (λ e311 e308 e301 e302 e303 e306 e310. none_is c ∙ sym (no_timer c n e301 e302 e303 e306 e310))
+in_broken c (Event.Expiry n) = by_timer c n (of AT_BROKEN c) (λ m. expiry m c) (none_is c) (none_is c) (pick (with AT_BROKEN c (late EXPIRY c T301) 0) (runs c T301) (timed_out_301_is c) (none_is c)) (pick (with AT_BROKEN c (late EXPIRY c T302) 0) (runs c T302) (timed_out_302_is c) (none_is c)) (pick (with AT_BROKEN c (late EXPIRY c T303) 0) (runs c T303) (timed_out_303_is c) (none_is c)) (pick (with AT_BROKEN c (late EXPIRY c T306) 0) (runs c T306) (timed_out_306_is c) (none_is c)) (pick (with AT_BROKEN c (late EXPIRY c T310) 0) (runs c T310) (timed_out_310_is c) (none_is c)) (λ e311 e308 e301 e302 e303 e306 e310. none_is c ∙ sym (no_timer c n e301 e302 e303 e306 e310))
 
 in_restoring : (c : Call) (e : Event) → of AT_RESTORING c (flat_of c e) ≡ active_restoring c e
 unfolding line active_restoring expiry timed_out
 in_restoring c (Event.SetupRequest a d q s) = none_is c
 in_restoring c Event.SetupResponse = none_is c
-in_restoring c Event.ReleaseRequest = releasing-is c
+in_restoring c Event.ReleaseRequest = releasing_is c
 in_restoring c (Event.TxRequest k) = none_is c
 in_restoring c (Event.DCallProceeding i) = none_is c
 in_restoring c (Event.DAlert i) = none_is c
@@ -261,20 +261,20 @@ in_restoring c (Event.DTxCeased i) = none_is c
 in_restoring c (Event.DTxInterrupt i g) = none_is c
 in_restoring c (Event.DTxWait i) = none_is c
 in_restoring c (Event.DTxContinue i k) = none_is c
-in_restoring c (Event.DCallRestore i g r o) = restored-is c g r o
-in_restoring c (Event.DDisconnect i) = disconnected-is c i
-in_restoring c (Event.DRelease i) = released-is c
+in_restoring c (Event.DCallRestore i g r o) = restored_is c g r o
+in_restoring c (Event.DDisconnect i) = disconnected_is c i
+in_restoring c (Event.DRelease i) = released_is c
 in_restoring c Event.ReportSent = none_is c
 in_restoring c Event.ReportFailed = none_is c
-in_restoring c Event.Break = broken-again-is c
+in_restoring c Event.Break = broken_again_is c
 in_restoring c Event.Resume = none_is c
-in_restoring c (Event.Expiry n) = by-timer c n (of AT_RESTORING c) (λ m. expiry m c) (none_is c) (none_is c) (pick (with AT_RESTORING c (late EXPIRY c T301) 0) (runs c T301) (timed_out_301_is c) (none_is c)) (pick (with AT_RESTORING c (late EXPIRY c T302) 0) (runs c T302) (timed_out_302_is c) (none_is c)) (pick (with AT_RESTORING c (late EXPIRY c T303) 0) (runs c T303) (timed_out_303_is c) (none_is c)) (pick (with AT_RESTORING c (late EXPIRY c T306) 0) (runs c T306) (timed_out_306_is c) (none_is c)) (pick (with AT_RESTORING c (late EXPIRY c T310) 0) (runs c T310) (timed_out_310_is c) (none_is c)) (λ e311 e308 e301 e302 e303 e306 e310. none_is c ∙ sym (no_timer c n e301 e302 e303 e306 e310))
+in_restoring c (Event.Expiry n) = by_timer c n (of AT_RESTORING c) (λ m. expiry m c) (none_is c) (none_is c) (pick (with AT_RESTORING c (late EXPIRY c T301) 0) (runs c T301) (timed_out_301_is c) (none_is c)) (pick (with AT_RESTORING c (late EXPIRY c T302) 0) (runs c T302) (timed_out_302_is c) (none_is c)) (pick (with AT_RESTORING c (late EXPIRY c T303) 0) (runs c T303) (timed_out_303_is c) (none_is c)) (pick (with AT_RESTORING c (late EXPIRY c T306) 0) (runs c T306) (timed_out_306_is c) (none_is c)) (pick (with AT_RESTORING c (late EXPIRY c T310) 0) (runs c T310) (timed_out_310_is c) (none_is c)) (λ e311 e308 e301 e302 e303 e306 e310. none_is c ∙ sym (no_timer c n e301 e302 e303 e306 e310))
 
 in_wait : (c : Call) (e : Event) → of AT_WAIT c (flat_of c e) ≡ wait c e
 unfolding line wait expiry timed_out
 in_wait c (Event.SetupRequest a d q s) = none_is c
 in_wait c Event.SetupResponse = none_is c
-in_wait c Event.ReleaseRequest = releasing-is c
+in_wait c Event.ReleaseRequest = releasing_is c
 in_wait c (Event.TxRequest k) = none_is c
 in_wait c (Event.DCallProceeding i) = none_is c
 in_wait c (Event.DAlert i) = none_is c
@@ -288,13 +288,13 @@ in_wait c (Event.DTxInterrupt i g) = none_is c
 in_wait c (Event.DTxWait i) = none_is c
 in_wait c (Event.DTxContinue i k) = pick (with AT_WAIT c (flat D_TX_CONTINUE c.address i c.mode k 0 0 c.code 0 0) 7) (eqb k 1) (continued_is c) (continued_off_is c)
 in_wait c (Event.DCallRestore i g r o) = none_is c
-in_wait c (Event.DDisconnect i) = disconnected-is c i
-in_wait c (Event.DRelease i) = released-is c
+in_wait c (Event.DDisconnect i) = disconnected_is c i
+in_wait c (Event.DRelease i) = released_is c
 in_wait c Event.ReportSent = none_is c
 in_wait c Event.ReportFailed = none_is c
 in_wait c Event.Break = pause_cut_is c
 in_wait c Event.Resume = none_is c
-in_wait c (Event.Expiry n) = by-timer c n (of AT_WAIT c) (λ m. expiry m c) (none_is c) (none_is c) (pick (with AT_WAIT c (late EXPIRY c T301) 0) (runs c T301) (timed_out_301_is c) (none_is c)) (pick (with AT_WAIT c (late EXPIRY c T302) 0) (runs c T302) (timed_out_302_is c) (none_is c)) (pick (with AT_WAIT c (late EXPIRY c T303) 0) (runs c T303) (timed_out_303_is c) (none_is c)) (pick (with AT_WAIT c (late EXPIRY c T306) 0) (runs c T306) (timed_out_306_is c) (none_is c)) (pick (with AT_WAIT c (late EXPIRY c T310) 0) (runs c T310) (timed_out_310_is c) (none_is c)) (λ e311 e308 e301 e302 e303 e306 e310. none_is c ∙ sym (no_timer c n e301 e302 e303 e306 e310))
+in_wait c (Event.Expiry n) = by_timer c n (of AT_WAIT c) (λ m. expiry m c) (none_is c) (none_is c) (pick (with AT_WAIT c (late EXPIRY c T301) 0) (runs c T301) (timed_out_301_is c) (none_is c)) (pick (with AT_WAIT c (late EXPIRY c T302) 0) (runs c T302) (timed_out_302_is c) (none_is c)) (pick (with AT_WAIT c (late EXPIRY c T303) 0) (runs c T303) (timed_out_303_is c) (none_is c)) (pick (with AT_WAIT c (late EXPIRY c T306) 0) (runs c T306) (timed_out_306_is c) (none_is c)) (pick (with AT_WAIT c (late EXPIRY c T310) 0) (runs c T310) (timed_out_310_is c) (none_is c)) (λ e311 e308 e301 e302 e303 e306 e310. none_is c ∙ sym (no_timer c n e301 e302 e303 e306 e310))
 
 in_disconnect : (c : Call) (e : Event) → of AT_DISCONNECT c (flat_of c e) ≡ call_disconnect c e
 unfolding line call_disconnect
@@ -314,13 +314,13 @@ in_disconnect c (Event.DTxInterrupt i g) = none_is c
 in_disconnect c (Event.DTxWait i) = none_is c
 in_disconnect c (Event.DTxContinue i k) = none_is c
 in_disconnect c (Event.DCallRestore i g r o) = none_is c
-in_disconnect c (Event.DDisconnect i) = pick (with AT_DISCONNECT c (named D_DISCONNECT c i) 1) (eqb c.sent 0) (disconnected-unsent-is c i) (disconnected-is c i)
-in_disconnect c (Event.DRelease i) = pick (with AT_DISCONNECT c (named D_RELEASE c i) 1) (eqb c.sent 0) (released-unsent-is c) (confirmed-is c)
+in_disconnect c (Event.DDisconnect i) = pick (with AT_DISCONNECT c (named D_DISCONNECT c i) 1) (eqb c.sent 0) (disconnected_unsent_is c i) (disconnected_is c i)
+in_disconnect c (Event.DRelease i) = pick (with AT_DISCONNECT c (named D_RELEASE c i) 1) (eqb c.sent 0) (released_unsent_is c) (confirmed_is c)
 in_disconnect c Event.ReportSent = pick (with AT_DISCONNECT c (bare REPORT_SENT c) 1) (eqb c.sent 0) (reported_is c) (none_is c)
-in_disconnect c Event.ReportFailed = pick (with AT_DISCONNECT c (bare REPORT_FAILED c) 1) (eqb c.sent 0) (confirmed-is c) (none_is c)
+in_disconnect c Event.ReportFailed = pick (with AT_DISCONNECT c (bare REPORT_FAILED c) 1) (eqb c.sent 0) (confirmed_is c) (none_is c)
 in_disconnect c Event.Break = none_is c
 in_disconnect c Event.Resume = none_is c
-in_disconnect c (Event.Expiry n) = by-timer c n (of AT_DISCONNECT c) (λ m. cond (eqb m 308 && runs c T308) (draft c ▷ expired T308 ▷ confirmed) (no_row c)) (none_is c) (pick (with AT_DISCONNECT c (late EXPIRY_308 c T308) 0) (runs c T308) (confirmed-late-is c) (none_is c)) (none_is c) (none_is c) (none_is c) (none_is c) (none_is c) (λ e311 e308 e301 e302 e303 e306 e310. rw e308 (none_is c))
+in_disconnect c (Event.Expiry n) = by_timer c n (of AT_DISCONNECT c) (λ m. cond (eqb m 308 && runs c T308) (draft c ▷ expired T308 ▷ confirmed) (no_row c)) (none_is c) (pick (with AT_DISCONNECT c (late EXPIRY_308 c T308) 0) (runs c T308) (confirmed_late_is c) (none_is c)) (none_is c) (none_is c) (none_is c) (none_is c) (none_is c) (λ e311 e308 e301 e302 e303 e306 e310. rw e308 (none_is c))
 
 in_path : (p : Path) (c : Call) (e : Event) → of (on_path p) c (flat_of c e) ≡ active p c e
 unfolding active

@@ -22,11 +22,11 @@ under_at (v ∷ vs) [] u j = absurd u
 under_at (v ∷ vs) (c ∷ cs) u zero = u.0
 under_at (v ∷ vs) (c ∷ cs) u (suc j) = under_at vs cs u.1 j
 
-pub under-set : (vs cs : List ℕ) → Under vs cs → (i x : ℕ) → x ≤ get_or cs i 0 → Under (set vs i x) cs
-under-set [] cs u i x h = tt
-under-set (v ∷ vs) [] u i x h = absurd u
-under-set (v ∷ vs) (c ∷ cs) u zero x h = (h, u.1)
-under-set (v ∷ vs) (c ∷ cs) u (suc i) x h = (u.0, under-set vs cs u.1 i x h)
+pub under_set : (vs cs : List ℕ) → Under vs cs → (i x : ℕ) → x ≤ get_or cs i 0 → Under (set vs i x) cs
+under_set [] cs u i x h = tt
+under_set (v ∷ vs) [] u i x h = absurd u
+under_set (v ∷ vs) (c ∷ cs) u zero x h = (h, u.1)
+under_set (v ∷ vs) (c ∷ cs) u (suc i) x h = (u.0, under_set vs cs u.1 i x h)
 
 -- each letter takes one, two or four bytes, and its slot has room for it
 pub record Letter (e : ℕ) : Type 0 where
@@ -36,8 +36,8 @@ pub record Letter (e : ℕ) : Type 0 where
   pub room : most_in e ≤ get_or caps (slot_in e) 0
   pub place : slot_in e < 9
 
-pub a-letter : (k : ℕ) → k < 16 → Letter (get_or letters k 0)
-a-letter k h =
+pub a_letter : (k : ℕ) → k < 16 → Letter (get_or letters k 0)
+a_letter k h =
     let t = at_entry (λ e. ltb 0 (width_in e) && (leb (width_in e) 4 && (eqb ((width_in e - 2) % 2) 0 && (leb (most_in e) (get_or caps (slot_in e) 0) && ltb (slot_in e) 9)))) letters refl k h in
     let a = both _ _ t in
     let b = both _ _ a.1 in
@@ -47,10 +47,10 @@ a-letter k h =
 
 -- the first letter, and the rest
 
-pub fill-first : (n : ℕ) (v s : List ℕ) (at : ℕ) → n < 0x100000 → 0 < n
+pub fill_first : (n : ℕ) (v s : List ℕ) (at : ℕ) → n < 0x100000 → 0 < n
     → fill (spell 5 n) v s at ≡ fill_by (get_or letters (n % 16) 0) v s at (λ w next. fill (spell 5 (n / 16)) w s next)
 unfolding fill
-fill-first n v s at h some = rw (first_of_five n h some) refl
+fill_first n v s at h some = rw (first_of_five n h some) refl
 
 pub total_first : (n : ℕ) → n < 0x100000 → 0 < n → total (spell 5 n) ≡ width_in (get_or letters (n % 16) 0) + total (spell 5 (n / 16))
 unfolding total

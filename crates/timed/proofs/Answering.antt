@@ -27,7 +27,7 @@ use Rattle.timed.specs.Set.{is_set, table_right, due_at, first_due, held_at, wit
 use Rattle.timed.specs.Entries.{Outcome, refusal, refusal_at, of_turn, turn_of, expiry_of, is_expiry, when_ready, step_of, due_of}
 use Rattle.timed.specs.Parts.{not_ready, ready_at, an_expiry, of_event, Readable}
 use Rattle.timed.proofs.Taking.{as_turn}
-use Rattle.timed.proofs.Expiries.{expiry-reads, first-is-timer}
+use Rattle.timed.proofs.Expiries.{expiry_reads, first_is_timer}
 
 -- a set that is ready for a reading
 pub record Accepting (t : Timed) (lengths : List ℕ) (reading : ℕ) (ready : Ready) : Type 0 where
@@ -57,7 +57,7 @@ module _ (t : Timed) (lengths : List ℕ) (reading : ℕ) where
   unfolding ready_at
   accepting ready is zero = by_tests_lem (is_set t) (table_right lengths) (is_back (forward t.bank.last reading)) refl refl refl ready is zero
 
-  refused-by : (a b c : Bool) (ready : Ready) (buffer : List ℕ) (after : Outcome)
+  refused_by : (a b c : Bool) (ready : Ready) (buffer : List ℕ) (after : Outcome)
       → ready
       ≡ cond a
       (cond b
@@ -66,37 +66,37 @@ module _ (t : Timed) (lengths : List ℕ) (reading : ℕ) where
       (not_ready 1 t.bank)
       → (ready.answer ≡ 0 → ⊥)
       → refusal ready.answer t buffer ≡ cond a (cond b (cond c (refusal 32 t buffer) after) (refusal 31 t buffer)) (refusal 1 t buffer)
-  refused-by false b c ready buffer after is other = ap (λ (x : Ready). refusal x.answer t buffer) is
-  refused-by true false c ready buffer after is other = ap (λ (x : Ready). refusal x.answer t buffer) is
-  refused-by true true true ready buffer after is other = ap (λ (x : Ready). refusal x.answer t buffer) is
-  refused-by true true false ready buffer after is other = absurd (other (ap (λ (x : Ready). x.answer) is))
+  refused_by false b c ready buffer after is other = ap (λ (x : Ready). refusal x.answer t buffer) is
+  refused_by true false c ready buffer after is other = ap (λ (x : Ready). refusal x.answer t buffer) is
+  refused_by true true true ready buffer after is other = ap (λ (x : Ready). refusal x.answer t buffer) is
+  refused_by true true false ready buffer after is other = absurd (other (ap (λ (x : Ready). x.answer) is))
 
   -- 1, 31 and 32
   pub not_ready_lem : (ready : Ready) (buffer : List ℕ) (after : Outcome) → ready ≡ ready_at t lengths reading → (ready.answer ≡ 0 → ⊥)
       → refusal ready.answer t buffer ≡ when_ready t lengths reading buffer after
   unfolding ready_at when_ready
-  not_ready_lem ready buffer after is other = refused-by (is_set t) (table_right lengths) (is_back (forward t.bank.last reading)) ready buffer after is other
+  not_ready_lem ready buffer after is other = refused_by (is_set t) (table_right lengths) (is_back (forward t.bank.last reading)) ready buffer after is other
 
   pub goes_on : (ready : Ready) (buffer : List ℕ) (after : Outcome) → Accepting t lengths reading ready → after ≡ when_ready t lengths reading buffer after
   unfolding when_ready
   goes_on ready buffer after a = rw (a.set, a.table, a.ahead)
 
-  pub is-sound : {ready : Ready} → Accepting t lengths reading ready → sound t.call ≡ true
+  pub is_sound : {ready : Ready} → Accepting t lengths reading ready → sound t.call ≡ true
   unfolding is_set
-  is-sound a = left _ _ a.set
+  is_sound a = left _ _ a.set
 
 -- ---- the step
 
 module _ (t : Timed) (lengths : List ℕ) (reading : ℕ) (event buffer : List ℕ) (ready : Ready) (a : Accepting t lengths reading ready) where
   -- 34
-  pub timer-due : (ready.count ≡ 0 → ⊥) → refusal 34 t buffer ≡ step_of t lengths reading event buffer
+  pub timer_due : (ready.count ≡ 0 → ⊥) → refusal 34 t buffer ≡ step_of t lengths reading event buffer
   unfolding step_of
-  timer-due some = rw (← goes_on t lengths reading ready buffer _ a, ne_eqb (due_at t reading) 0 (λ z. some (a.count ∙ z)))
+  timer_due some = rw (← goes_on t lengths reading ready buffer _ a, ne_eqb (due_at t reading) 0 (λ z. some (a.count ∙ z)))
 
   -- where none is due
-  none-due : ready.count ≡ 0 → step_of t lengths reading event buffer ≡ cond (is_expiry (read events event)) (refusal 35 t buffer) (of_turn 0 t lengths reading (turn_of event buffer))
+  none_due : ready.count ≡ 0 → step_of t lengths reading event buffer ≡ cond (is_expiry (read events event)) (refusal 35 t buffer) (of_turn 0 t lengths reading (turn_of event buffer))
   unfolding step_of
-  none-due none = rw (← goes_on t lengths reading ready buffer _ a, eq-eqb (due_at t reading) 0 (sym a.count ∙ none))
+  none_due none = rw (← goes_on t lengths reading ready buffer _ a, eq-eqb (due_at t reading) 0 (sym a.count ∙ none))
 
   -- 2, 3, 9 and 4
   unread_by : (r : EventRead) → OneOf (1 ∷ 2 ∷ 3 ∷ 4 ∷ []) (Declared.tag_of event-read.the_type r) → as_event_read r ≡ read events event
@@ -104,32 +104,32 @@ module _ (t : Timed) (lengths : List ℕ) (reading : ℕ) (event buffer : List �
       ≡ cond (is_expiry (read events event)) (refusal 35 t buffer) (of_turn 0 t lengths reading (turn_of event buffer))
   unfolding of_turn outcome call_step_of
   unread_by (EventRead.Is e) k is = absurd (miss (1 ∷ 2 ∷ 3 ∷ 4 ∷ []) 0 tt k)
-  unread_by EventRead.BadLength k is = rw (← is, is-sound t lengths reading a)
-  unread_by EventRead.UnknownKind k is = rw (← is, is-sound t lengths reading a)
-  unread_by EventRead.Retired k is = rw (← is, is-sound t lengths reading a)
-  unread_by (EventRead.BadBody place) k is = rw (← is, is-sound t lengths reading a)
+  unread_by EventRead.BadLength k is = rw (← is, is_sound t lengths reading a)
+  unread_by EventRead.UnknownKind k is = rw (← is, is_sound t lengths reading a)
+  unread_by EventRead.Retired k is = rw (← is, is_sound t lengths reading a)
+  unread_by (EventRead.BadBody place) k is = rw (← is, is_sound t lengths reading a)
 
   pub unread : (r : EventRead) → OneOf (1 ∷ 2 ∷ 3 ∷ 4 ∷ []) (Declared.tag_of event-read.the_type r) → as_event_read r ≡ read events event → ready.count ≡ 0
       → refusal_at (answer_number (unread_as r)) (place_in r) t buffer ≡ step_of t lengths reading event buffer
-  unread r k is none = unread_by r k is ∙ sym (none-due none)
+  unread r k is none = unread_by r k is ∙ sym (none_due none)
 
   -- 35
   pub handed_in : (e : Event) → read events event ≡ taken e → an_expiry e ≡ true → ready.count ≡ 0 → refusal 35 t buffer ≡ step_of t lengths reading event buffer
-  handed_in e is expiry none = sym (none-due none ∙ rw (is, expiry))
+  handed_in e is expiry none = sym (none_due none ∙ rw (is, expiry))
 
   -- and the step itself
   pub stepped : {o : Outcome} (e : Event) → read events event ≡ taken e → an_expiry e ≡ false → ready.count ≡ 0 → o ≡ of_event 0 t ready.bank lengths e buffer
       → o ≡ step_of t lengths reading event buffer
   stepped e is other none o =
-      o ∙ ap (λ (b : Bank). of_event 0 t b lengths e buffer) a.bank ∙ as_turn 0 t lengths reading event buffer e (is-sound t lengths reading a) is
-      ∙ sym (none-due none ∙ rw (is, other))
+      o ∙ ap (λ (b : Bank). of_event 0 t b lengths e buffer) a.bank ∙ as_turn 0 t lengths reading event buffer e (is_sound t lengths reading a) is
+      ∙ sym (none_due none ∙ rw (is, other))
 
 -- ---- due
 
 module _ (t : Timed) (lengths : List ℕ) (reading : ℕ) (ready : Ready) (a : Accepting t lengths reading ready) where
   -- the expiry of the first timer due is an event
   first_reads : (ready.count ≡ 0 → ⊥) → read events (expiry_of ready.first) ≡ taken (Event.Expiry ready.first)
-  first_reads some = expiry-reads ready.first (rw a.first (first-is-timer t.bank reading (λ z. some (a.count ∙ z))))
+  first_reads some = expiry_reads ready.first (rw a.first (first_is_timer t.bank reading (λ z. some (a.count ∙ z))))
 
   pub readable : (ready.count ≡ 0 → ⊥) → Readable (Event.Expiry ready.first)
   readable some = (expiry_of ready.first, first_reads some)
@@ -139,7 +139,7 @@ module _ (t : Timed) (lengths : List ℕ) (reading : ℕ) (ready : Ready) (a : A
   expired {o} buffer some is =
       let turn : o ≡ of_turn 1 t lengths reading (turn_of (expiry_of ready.first) buffer)
       = is ∙ ap (λ (b : Bank). of_event 1 t b lengths (Event.Expiry ready.first) buffer) a.bank
-      ∙ as_turn 1 t lengths reading (expiry_of ready.first) buffer (Event.Expiry ready.first) (is-sound t lengths reading a) (first_reads some) in
+      ∙ as_turn 1 t lengths reading (expiry_of ready.first) buffer (Event.Expiry ready.first) (is_sound t lengths reading a) (first_reads some) in
       rw (← goes_on t lengths reading ready buffer _ a, ne_eqb (due_at t reading) 0 (λ z. some (a.count ∙ z)), ← a.first) turn
 
   pub quiet : (buffer : List ℕ) (next : Bank) → ready.count ≡ 0 → next ≡ with_flags t.call.timers ready.bank

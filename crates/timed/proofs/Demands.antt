@@ -13,8 +13,8 @@ use Rattle.timed.proofs.Together as Together
 pub bank_is_record : claims.BankIsRecord
 bank_is_record = Together.bank_is_record
 
-pub stays-set : claims.StaysSet
-stays-set = Together.stays-set
+pub stays_set : claims.StaysSet
+stays_set = Together.stays_set
 
 pub never_no_set : claims.NeverNoSet
 never_no_set = Together.never_no_set
@@ -27,19 +27,19 @@ follows_step = Together.follows_step
 pub steps_taken : claims.StepsTaken
 steps_taken = Together.steps_taken
 
-pub writes-step : claims.WritesStep
-writes-step = Together.writes-step
+pub writes_step : claims.WritesStep
+writes_step = Together.writes_step
 
 pub steps_append : claims.StepsAppend
 steps_append = Together.steps_append
 
-pub told-set : claims.ToldSet
-told-set = Together.told-set
+pub told_set : claims.ToldSet
+told_set = Together.told_set
 
 -- (b) No expiry is refused
 
-pub due-answers-zero : claims.DueAnswersZero
-due-answers-zero = Served.due-answers-zero
+pub due_answers_zero : claims.DueAnswersZero
+due_answers_zero = Served.due_answers_zero
 
 pub due_in_reach : claims.DueInReach
 due_in_reach = Served.due_in_reach
@@ -62,20 +62,20 @@ due_at_most_30 = Served.due_at_most_30
 
 -- (c) In true time
 
-pub step-settled : claims.StepSettled
-step-settled = OnTime.step-settled
+pub step_settled : claims.StepSettled
+step_settled = OnTime.step_settled
 
-pub due-settled : claims.DueSettled
-due-settled = OnTime.due-settled
+pub due_settled : claims.DueSettled
+due_settled = OnTime.due_settled
 
-pub due-first : claims.DueFirst
-due-first = OnTime.due-first
+pub due_first : claims.DueFirst
+due_first = OnTime.due_first
 
 pub not_passed_over : claims.NotPassedOver
 not_passed_over = OnTime.not_passed_over
 
-pub others-stop : claims.OthersStop
-others-stop = OnTime.others-stop
+pub others_stop : claims.OthersStop
+others_stop = OnTime.others_stop
 
 pub on_time : claims.OnTime
 on_time = InTime.on_time
@@ -106,7 +106,7 @@ pub in_silence : claims.InSilence
 in_silence = Silence.in_silence
 
 pub closes : claims.Closes
-closes = Silence.closes-call
+closes = Silence.closes_call
 
 pub lone_rests : claims.LoneRests
 lone_rests = Rest.lone_rests

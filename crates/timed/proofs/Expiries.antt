@@ -13,29 +13,29 @@ use Rattle.records.specs.Bytes.{bytes}
 use Rattle.records.specs.Bodies.{body_bytes, flat_bytes, flat_size, flat_fits, all_fit}
 use Rattle.records.specs.Tables.{taken, read, fine}
 use Rattle.records.specs.Events.{events}
-use Rattle.records.proofs.RoundTrip.{event-written-reads-back}
+use Rattle.records.proofs.RoundTrip.{event_written_reads_back}
 use Rattle.timers.specs.declared.bank.Bank.{Bank}
 use Rattle.timers.specs.Wrap.{forward, is_back}
 use Rattle.timers.specs.Due.{numbers, key_of, keys_of, one_if, count_of, under, greater, below, number_of, handed}
 use Rattle.timers.specs.Bank.{index_of, keys_at, handed_at}
 use Rattle.timers.proofs.Tests.{decide, by_test, All}
 use Rattle.timers.proofs.Indices.{by_index, by_number_lem}
-use Rattle.timers.proofs.Keys.{most, total, greater-is, below-is}
+use Rattle.timers.proofs.Keys.{most, total, greater_is, below_is}
 use Rattle.timed.specs.Entries.{expiry_of}
 
 -- ---- the expiry
 
-pub expiry-reads : (n : ℕ) → index_of n < 7 → read events (expiry_of n) ≡ taken (Event.Expiry n)
+pub expiry_reads : (n : ℕ) → index_of n < 7 → read events (expiry_of n) ≡ taken (Event.Expiry n)
 unfolding bytes body_bytes flat_bytes flat_size flat_fits all_fit fine is_timer
-expiry-reads =
+expiry_reads =
     by_number_lem (λ n. index_of n < 7 → read events (expiry_of n) ≡ taken (Event.Expiry n))
-    (λ h. event-written-reads-back (Event.Expiry 301) refl)
-    (λ h. event-written-reads-back (Event.Expiry 302) refl)
-    (λ h. event-written-reads-back (Event.Expiry 303) refl)
-    (λ h. event-written-reads-back (Event.Expiry 306) refl)
-    (λ h. event-written-reads-back (Event.Expiry 308) refl)
-    (λ h. event-written-reads-back (Event.Expiry 310) refl)
-    (λ h. event-written-reads-back (Event.Expiry 311) refl)
+    (λ h. event_written_reads_back (Event.Expiry 301) refl)
+    (λ h. event_written_reads_back (Event.Expiry 302) refl)
+    (λ h. event_written_reads_back (Event.Expiry 303) refl)
+    (λ h. event_written_reads_back (Event.Expiry 306) refl)
+    (λ h. event_written_reads_back (Event.Expiry 308) refl)
+    (λ h. event_written_reads_back (Event.Expiry 310) refl)
+    (λ h. event_written_reads_back (Event.Expiry 311) refl)
     (λ n e h. absurd (omega arith))
 
 -- ---- the first timer due
@@ -63,7 +63,7 @@ some_key : (xs : List ℕ) → All Key xs → 0 < total one_if xs → 0 < most 3
 unfolding under
 some_key [] a h = absurd (omega arith)
 some_key (x ∷ xs) a h =
-    rw (greater-is, lt-ltb x 34359738368 a.0.0)
+    rw (greater_is, lt-ltb x 34359738368 a.0.0)
     (decide (eqb x 0) (λ q. let rest : 0 < 0 + total one_if xs = rw q at h in let more = some_key xs a.1 (omega arith) in omega arith) (λ q. let above = eqb-false x 0 q in omega arith))
 
 -- a key above 0 is a timer's
@@ -72,19 +72,19 @@ unfolding number_of index_of
 its_timer k h =
     by_index (λ p. index_of (get_or numbers p 0) < 7) (lit< tt) (lit< tt) (lit< tt) (lit< tt) (lit< tt) (lit< tt) (lit< tt) (7 - k % 8) (omega arith)
 
-first-handed : (n bound : ℕ) (keys : List ℕ) → (n ≡ 0 → ⊥) → get_or (handed n bound keys) 0 0 ≡ number_of (below bound keys)
+first_handed : (n bound : ℕ) (keys : List ℕ) → (n ≡ 0 → ⊥) → get_or (handed n bound keys) 0 0 ≡ number_of (below bound keys)
 unfolding handed
-first-handed zero bound keys h = absurd (h refl)
-first-handed (suc n) bound keys h = refl
+first_handed zero bound keys h = absurd (h refl)
+first_handed (suc n) bound keys h = refl
 
-above-none : (n : ℕ) → (n ≡ 0 → ⊥) → 0 < n
-above-none zero h = absurd (h refl)
-above-none (suc n) h = omega arith
+above_none : (n : ℕ) → (n ≡ 0 → ⊥) → 0 < n
+above_none zero h = absurd (h refl)
+above_none (suc n) h = omega arith
 
 counted : (k0 k1 k2 k3 k4 k5 k6 : ℕ) → (count_of (k0 ∷ k1 ∷ k2 ∷ k3 ∷ k4 ∷ k5 ∷ k6 ∷ []) ≡ 0 → ⊥) → 0 < total one_if (k0 ∷ k1 ∷ k2 ∷ k3 ∷ k4 ∷ k5 ∷ k6 ∷ [])
 unfolding count_of
 counted k0 k1 k2 k3 k4 k5 k6 h =
-    let some : 0 < one_if k0 + one_if k1 + one_if k2 + one_if k3 + one_if k4 + one_if k5 + one_if k6 = above-none _ h in omega arith
+    let some : 0 < one_if k0 + one_if k1 + one_if k2 + one_if k3 + one_if k4 + one_if k5 + one_if k6 = above_none _ h in omega arith
 
 -- of seven keys the first handed out is a timer's
 of_seven : (k0 k1 k2 k3 k4 k5 k6 : ℕ) → All Key (k0 ∷ k1 ∷ k2 ∷ k3 ∷ k4 ∷ k5 ∷ k6 ∷ []) → (count_of (k0 ∷ k1 ∷ k2 ∷ k3 ∷ k4 ∷ k5 ∷ k6 ∷ []) ≡ 0 → ⊥)
@@ -92,18 +92,18 @@ of_seven : (k0 k1 k2 k3 k4 k5 k6 : ℕ) → All Key (k0 ∷ k1 ∷ k2 ∷ k3 ∷
 of_seven k0 k1 k2 k3 k4 k5 k6 all some =
     let more : 0 < most 34359738368 (k0 ∷ k1 ∷ k2 ∷ k3 ∷ k4 ∷ k5 ∷ k6 ∷ []) = some_key (k0 ∷ k1 ∷ k2 ∷ k3 ∷ k4 ∷ k5 ∷ k6 ∷ []) all (counted k0 k1 k2 k3 k4 k5 k6 some) in
     let key : 0 < most 34359738368 (k0 ∷ k1 ∷ k2 ∷ k3 ∷ k4 ∷ k5 ∷ k6 ∷ []) % 8 = greatest_key (k0 ∷ k1 ∷ k2 ∷ k3 ∷ k4 ∷ k5 ∷ k6 ∷ []) all more in
-    let same : below 34359738368 (k0 ∷ k1 ∷ k2 ∷ k3 ∷ k4 ∷ k5 ∷ k6 ∷ []) ≡ most 34359738368 (k0 ∷ k1 ∷ k2 ∷ k3 ∷ k4 ∷ k5 ∷ k6 ∷ []) = below-is 34359738368 k0 k1 k2 k3 k4 k5 k6 in
+    let same : below 34359738368 (k0 ∷ k1 ∷ k2 ∷ k3 ∷ k4 ∷ k5 ∷ k6 ∷ []) ≡ most 34359738368 (k0 ∷ k1 ∷ k2 ∷ k3 ∷ k4 ∷ k5 ∷ k6 ∷ []) = below_is 34359738368 k0 k1 k2 k3 k4 k5 k6 in
     let timer : index_of (number_of (below 34359738368 (k0 ∷ k1 ∷ k2 ∷ k3 ∷ k4 ∷ k5 ∷ k6 ∷ []))) < 7
     = its_timer (below 34359738368 (k0 ∷ k1 ∷ k2 ∷ k3 ∷ k4 ∷ k5 ∷ k6 ∷ [])) (subst (λ (k : ℕ). 0 < k % 8) (sym same) key) in
     subst (λ (n : ℕ). index_of n < 7)
-    (sym (first-handed (count_of (k0 ∷ k1 ∷ k2 ∷ k3 ∷ k4 ∷ k5 ∷ k6 ∷ [])) 34359738368 (k0 ∷ k1 ∷ k2 ∷ k3 ∷ k4 ∷ k5 ∷ k6 ∷ []) some)) timer
+    (sym (first_handed (count_of (k0 ∷ k1 ∷ k2 ∷ k3 ∷ k4 ∷ k5 ∷ k6 ∷ [])) 34359738368 (k0 ∷ k1 ∷ k2 ∷ k3 ∷ k4 ∷ k5 ∷ k6 ∷ []) some)) timer
 
 key_at : (b : Bank) (reading index : ℕ) → index < 7 → Key (key_of index (get_or b.running index false) (get_or b.deadlines index 0) reading)
 key_at b reading index h = key_is index (get_or b.running index false) (get_or b.deadlines index 0) reading h
 
-pub first-is-timer : (b : Bank) (reading : ℕ) → (count_of (keys_at b reading) ≡ 0 → ⊥) → index_of (get_or (handed_at b reading) 0 0) < 7
+pub first_is_timer : (b : Bank) (reading : ℕ) → (count_of (keys_at b reading) ≡ 0 → ⊥) → index_of (get_or (handed_at b reading) 0 0) < 7
 unfolding handed_at keys_at keys_of
-first-is-timer b reading some =
+first_is_timer b reading some =
     of_seven
     (key_of 0 (get_or b.running 0 false) (get_or b.deadlines 0 0) reading)
     (key_of 1 (get_or b.running 1 false) (get_or b.deadlines 1 0) reading)

@@ -62,8 +62,8 @@ said : Unit {0}
 unfolding verbs Rows.releasing Rows.confirmed noted_all noted messages_in by_number starting
 said = tt
 
-after-release : {c : Call} → Timed State.CallDisconnect Path.Up c → runs c T308 ≡ true
-after-release disconnect = refl
+after_release : {c : Call} → Timed State.CallDisconnect Path.Up c → runs c T308 ≡ true
+after_release disconnect = refl
 
 active_310 : {c : Call} {w : Path} {q : ℕ} → Timed State.CallActive w c → Watched q → runs c q ≡ true → get_or numbers q 0 ≡ 310
 active_310 v w310 h = refl
@@ -116,9 +116,9 @@ resumes : {c : Call} → Timed State.CallActive Path.Broken c
 unfolding said
 resumes broken = stays (λ table time u. refl)
 
-breaks-again : {c : Call} → Timed State.CallActive Path.Restoring c → Fate (draft c ▷ stop T306 ▷ on_path Path.Broken ▷ off) 310
+breaks_again : {c : Call} → Timed State.CallActive Path.Restoring c → Fate (draft c ▷ stop T306 ▷ on_path Path.Broken ▷ off) 310
 unfolding said
-breaks-again restoring = stays (λ table time u. refl)
+breaks_again restoring = stays (λ table time u. refl)
 
 -- an event of the user or of the lower layers
 pub fate : {c : Call} {s : State} {w : Path} {e : Event} {x : Draft} {q : ℕ} → Row c s w e x → Timed s w c → is_word e ≡ false → eqb (flat events e).kind 0x0401 ≡ false → Watched q → runs c q ≡ true
@@ -138,19 +138,19 @@ fate (Row.restored i g r o) v z a y h = apart refl z
 fate (Row.continues i j z) v n a y h = apart refl n
 fate (Row.continues_off i j z) v n a y h = apart refl n
 fate (Row.collides i z) v n a y h = apart refl n
-fate (Row.collides-sent i z) v n a y h = apart refl n
-fate (Row.ends-first i z) v n a y h = apart refl n
+fate (Row.collides_sent i z) v n a y h = apart refl n
+fate (Row.ends_first i z) v n a y h = apart refl n
 fate (Row.confirms i z) v n a y h = apart refl n
 fate (Row.connects i g d o s) v b a y h = apart (word_connect i g d o s) b
-fate (Row.same-mode i r o d s z) v b a y h = apart (word_info i r o d s) b
+fate (Row.same_mode i r o d s z) v b a y h = apart (word_info i r o d s) b
 fate (Row.new_mode i r o d s z) v b a y h = apart (word_info i r o d s) b
 fate (Row.expires l n k t z) v b a y h = apart refl a
 fate (Row.talked_out n z b₁) v b a y h = apart refl a
 fate (Row.unanswered n z) v b a y h = apart refl a
-fate (Row.releases l) v b a y h = closes (after-release (row_clocked (Row.releases l) v))
+fate (Row.releases l) v b a y h = closes (after_release (row_clocked (Row.releases l) v))
 fate (Row.calls a d q s) v b e y h = absurd (idle_not v y h)
 fate (Row.takes_back z) (mo m) b a y h = ends refl
-fate (Row.releases-sent z) v b a y h = closes (after-release (row_clocked (Row.releases-sent z) v))
+fate (Row.releases_sent z) v b a y h = closes (after_release (row_clocked (Row.releases_sent z) v))
 fate (Row.sent z) v b a y h = stays (λ table time u. refl)
 fate (Row.unsent z) v b a y h = ends refl
 fate (Row.answers z) v b a y h = absurd (rings_not v y h z)
@@ -160,14 +160,14 @@ fate (Row.asks_no_more k z f g) v b a y h = stays (λ table time u. refl)
 fate Row.breaks v b a y h = rw (active_310 v y h) (breaks v)
 fate (Row.wants k z) v b a y h = stays (λ table time u. refl)
 fate Row.resumes v b a y h = rw (active_310 v y h) (resumes v)
-fate Row.breaks-again v b a y h = rw (active_310 v y h) (breaks-again v)
+fate Row.breaks_again v b a y h = rw (active_310 v y h) (breaks_again v)
 fate Row.breaks_paused wait b a y h = stays (λ table time u. refl)
-fate (Row.end-sent z) v b a y h = absurd (closed_not v y h)
-fate (Row.end-unsent z) v b a y h = absurd (closed_not v y h)
+fate (Row.end_sent z) v b a y h = absurd (closed_not v y h)
+fate (Row.end_unsent z) v b a y h = absurd (closed_not v y h)
 
 -- T308, while a call is being ended: it runs on, or the call is over
 pub data Last (x : Draft) : Type 0 where
-  is-over : is_idle x.call ≡ true → Last x
+  is_over : is_idle x.call ≡ true → Last x
   goes_on : ((table : List ℕ) (time : ℕ) (u : Clocks) → noted_all table time u (messages_in x) 308 ≡ u 308) → Last x
 
 live_308 : {c : Call} {s : State} {w : Path} → Live s → Timed s w c → runs c T308 ≡ false
@@ -194,11 +194,11 @@ fate_308 (Row.restored i g r o) v z a h = apart refl z
 fate_308 (Row.continues i j z) v n a h = apart refl n
 fate_308 (Row.continues_off i j z) v n a h = apart refl n
 fate_308 (Row.collides i z) v n a h = apart refl n
-fate_308 (Row.collides-sent i z) v n a h = apart refl n
-fate_308 (Row.ends-first i z) v n a h = apart refl n
+fate_308 (Row.collides_sent i z) v n a h = apart refl n
+fate_308 (Row.ends_first i z) v n a h = apart refl n
 fate_308 (Row.confirms i z) v n a h = apart refl n
 fate_308 (Row.connects i g d o s) v b a h = apart (word_connect i g d o s) b
-fate_308 (Row.same-mode i r o d s z) v b a h = apart (word_info i r o d s) b
+fate_308 (Row.same_mode i r o d s z) v b a h = apart (word_info i r o d s) b
 fate_308 (Row.new_mode i r o d s z) v b a h = apart (word_info i r o d s) b
 fate_308 (Row.expires l n k t z) v b a h = apart refl a
 fate_308 (Row.talked_out n z b₁) v b a h = apart refl a
@@ -206,7 +206,7 @@ fate_308 (Row.unanswered n z) v b a h = apart refl a
 fate_308 (Row.releases l) v b a h = apart h (live_308 l v)
 fate_308 (Row.calls a d q s) idle b e h = apart h refl
 fate_308 (Row.takes_back z) (mo m) b a h = apart h refl
-fate_308 (Row.releases-sent z) (mo m) b a h = apart h refl
+fate_308 (Row.releases_sent z) (mo m) b a h = apart h refl
 fate_308 (Row.sent z) (mo m) b a h = apart h refl
 fate_308 (Row.unsent z) (mo m) b a h = apart h refl
 fate_308 (Row.answers z) mt b a h = apart h refl
@@ -216,10 +216,10 @@ fate_308 (Row.asks_no_more k z f g) up b a h = apart h refl
 fate_308 Row.breaks up b a h = apart h refl
 fate_308 (Row.wants k z) broken b a h = apart h refl
 fate_308 Row.resumes broken b a h = apart h refl
-fate_308 Row.breaks-again restoring b a h = apart h refl
+fate_308 Row.breaks_again restoring b a h = apart h refl
 fate_308 Row.breaks_paused wait b a h = apart h refl
-fate_308 (Row.end-sent z) v b a h = goes_on (λ table time u. refl)
-fate_308 (Row.end-unsent z) v b a h = is-over refl
+fate_308 (Row.end_sent z) v b a h = goes_on (λ table time u. refl)
+fate_308 (Row.end_unsent z) v b a h = is_over refl
 
 live_not : {s : State} → Live s → eqb (state_number s) 0 ≡ false
 live_not Live.calling = refl
@@ -268,15 +268,15 @@ not_four e306 h = omega (arith, h)
 not_four e310 h = omega (arith, h)
 
 -- in IDLE none runs
-pub idle-none : {s : State} {w : Path} {c : Call} → Timed s w c → eqb (state_number s) 0 ≡ true → (p : ℕ) → p < 7 → runs c p ≡ false
-idle-none {c = c} idle z = by_index (λ p. runs c p ≡ false) refl refl refl refl refl refl refl
-idle-none (mo m) z = apart z refl
-idle-none mt z = apart z refl
-idle-none up z = apart z refl
-idle-none broken z = apart z refl
-idle-none restoring z = apart z refl
-idle-none wait z = apart z refl
-idle-none disconnect z = apart z refl
+pub idle_none : {s : State} {w : Path} {c : Call} → Timed s w c → eqb (state_number s) 0 ≡ true → (p : ℕ) → p < 7 → runs c p ≡ false
+idle_none {c = c} idle z = by_index (λ p. runs c p ≡ false) refl refl refl refl refl refl refl
+idle_none (mo m) z = apart z refl
+idle_none mt z = apart z refl
+idle_none up z = apart z refl
+idle_none broken z = apart z refl
+idle_none restoring z = apart z refl
+idle_none wait z = apart z refl
+idle_none disconnect z = apart z refl
 
 -- beside T311 only T310 runs
 pub with_311 : {s : State} {w : Path} {c : Call} {q : ℕ} → Timed s w c → runs c T311 ≡ true → Ending q → runs c q ≡ true → get_or numbers q 0 ≡ 310
@@ -317,7 +317,7 @@ with_311 disconnect z e306 h = apart z refl
 -- an expiry that ends a call starts T308, and T308's own ends it
 pub row_closes : {c : Call} {s : State} {w : Path} {n : ℕ} {x : Draft} → Row c s w (Expiry n) x → Timed s w c → eqb n 311 ≡ false → eqb n 308 ≡ false → runs x.call T308 ≡ true
 unfolding said
-row_closes (Row.expires l n k t z) v a b = after-release (row_clocked (Row.expires l n k t z) v)
+row_closes (Row.expires l n k t z) v a b = after_release (row_clocked (Row.expires l n k t z) v)
 row_closes (Row.talked_out n z y) v a b = apart z a
 row_closes (Row.unanswered n z) v a b = apart (left (eqb n 308) _ z) b
 
@@ -328,11 +328,11 @@ not_308 {n} (t303 e) h = let a = eqb-true n 303 e in let b = eqb-true n 308 h in
 not_308 {n} (t306 e) h = let a = eqb-true n 306 e in let b = eqb-true n 308 h in omega (arith, a, b)
 not_308 {n} (t310 e) h = let a = eqb-true n 310 e in let b = eqb-true n 308 h in omega (arith, a, b)
 
-pub row-over : {c : Call} {s : State} {w : Path} {n : ℕ} {x : Draft} → Row c s w (Expiry n) x → Timed s w c → eqb n 308 ≡ true → is_idle x.call ≡ true
+pub row_over : {c : Call} {s : State} {w : Path} {n : ℕ} {x : Draft} → Row c s w (Expiry n) x → Timed s w c → eqb n 308 ≡ true → is_idle x.call ≡ true
 unfolding said
-row-over (Row.expires l n k t z) v a = absurd (not_308 t a)
-row-over (Row.talked_out n z y) v a = absurd (let b = eqb-true n 311 z in let c = eqb-true n 308 a in omega (arith, b, c))
-row-over (Row.unanswered n z) v a = refl
+row_over (Row.expires l n k t z) v a = absurd (not_308 t a)
+row_over (Row.talked_out n z y) v a = absurd (let b = eqb-true n 311 z in let c = eqb-true n 308 a in omega (arith, b, c))
+row_over (Row.unanswered n z) v a = refl
 
 -- T311 does not run, or is untouched
 pub data Off (x : Draft) : Type 0 where
@@ -359,11 +359,11 @@ fate_311 (Row.restored i g r o) v b e = apart refl b
 fate_311 (Row.continues i j z) v b e = apart refl b
 fate_311 (Row.continues_off i j z) v b e = apart refl b
 fate_311 (Row.collides i z) v b e = apart refl b
-fate_311 (Row.collides-sent i z) v b e = apart refl b
-fate_311 (Row.ends-first i z) v b e = apart refl b
+fate_311 (Row.collides_sent i z) v b e = apart refl b
+fate_311 (Row.ends_first i z) v b e = apart refl b
 fate_311 (Row.confirms i z) v b e = apart refl b
 fate_311 (Row.connects i g d o s) v b e = apart (word_connect i g d o s) b
-fate_311 (Row.same-mode i r o d s z) v b e = apart (word_info i r o d s) b
+fate_311 (Row.same_mode i r o d s z) v b e = apart (word_info i r o d s) b
 fate_311 (Row.new_mode i r o d s z) v b e = apart (word_info i r o d s) b
 fate_311 (Row.expires l n k t z) v b e = apart refl e
 fate_311 (Row.talked_out n z b₁) v b e = apart refl e
@@ -371,7 +371,7 @@ fate_311 (Row.unanswered n z) v b e = apart refl e
 fate_311 (Row.releases l) v b e = silenced (released_311 (row_clocked (Row.releases l) v))
 fate_311 (Row.calls a d q s) idle b e = silenced refl
 fate_311 (Row.takes_back z) v b e = silenced refl
-fate_311 (Row.releases-sent z) v b e = silenced (released_311 (row_clocked (Row.releases-sent z) v))
+fate_311 (Row.releases_sent z) v b e = silenced (released_311 (row_clocked (Row.releases_sent z) v))
 fate_311 (Row.sent z) v b e = untouched (λ table time u. refl)
 fate_311 (Row.unsent z) v b e = silenced refl
 fate_311 (Row.answers z) mt b e = silenced refl
@@ -381,7 +381,7 @@ fate_311 (Row.asks_no_more k z f g) v b e = untouched (λ table time u. refl)
 fate_311 Row.breaks up b e = silenced refl
 fate_311 (Row.wants k z) v b e = untouched (λ table time u. refl)
 fate_311 Row.resumes broken b e = silenced refl
-fate_311 Row.breaks-again restoring b e = silenced refl
+fate_311 Row.breaks_again restoring b e = silenced refl
 fate_311 Row.breaks_paused wait b e = silenced refl
-fate_311 (Row.end-sent z) v b e = untouched (λ table time u. refl)
-fate_311 (Row.end-unsent z) v b e = silenced refl
+fate_311 (Row.end_sent z) v b e = untouched (λ table time u. refl)
+fate_311 (Row.end_unsent z) v b e = silenced refl

@@ -85,88 +85,88 @@ not_start lengths b (TxIndication x) rest other = refl
 not_start lengths b (ModifyIndication d s) rest other = refl
 
 -- and one of START's kind is a START
-is-start : (m : Message) (rest : List ℕ) → number 2 (message_bytes m ++ rest) 2 ≡ 0x0602 → (timer : ℕ) × ((code : ℕ) × (m ≡ Start timer code))
+is_start : (m : Message) (rest : List ℕ) → number 2 (message_bytes m ++ rest) 2 ≡ 0x0602 → (timer : ℕ) × ((code : ℕ) × (m ≡ Start timer code))
 unfolding number message_bytes flat_bytes flat_size body_bytes bytes
-is-start (USetup a d q zero) rest same = absurd (omega arith)
-is-start (USetup a d q (suc s)) rest same = absurd (omega arith)
-is-start (UConnect i) rest same = absurd (omega arith)
-is-start (UDisconnect i c) rest same = absurd (omega arith)
-is-start (URelease i) rest same = absurd (omega arith)
-is-start (UInfo i d) rest same = absurd (omega arith)
-is-start (UTxDemand i) rest same = absurd (omega arith)
-is-start (UTxCeased i) rest same = absurd (omega arith)
-is-start (UCallRestore i a q) rest same = absurd (omega arith)
-is-start (Stop n) rest same = absurd (omega arith)
-is-start (Start n o) rest same = (n, (o, refl))
-is-start (Configure p) rest same = absurd (omega arith)
-is-start Cancel rest same = absurd (omega arith)
-is-start (Place at) rest same = absurd (omega arith)
-is-start (ChannelAnswer n v) rest same = absurd (omega arith)
-is-start (SetupIndication i a d) rest same = absurd (omega arith)
-is-start (SetupConfirm i g) rest same = absurd (omega arith)
-is-start Proceed rest same = absurd (omega arith)
-is-start Alert rest same = absurd (omega arith)
-is-start (Complete g) rest same = absurd (omega arith)
-is-start (ReleaseIndication c) rest same = absurd (omega arith)
-is-start ReleaseConfirm rest same = absurd (omega arith)
-is-start (TxIndication x) rest same = absurd (omega arith)
-is-start (ModifyIndication d s) rest same = absurd (omega arith)
+is_start (USetup a d q zero) rest same = absurd (omega arith)
+is_start (USetup a d q (suc s)) rest same = absurd (omega arith)
+is_start (UConnect i) rest same = absurd (omega arith)
+is_start (UDisconnect i c) rest same = absurd (omega arith)
+is_start (URelease i) rest same = absurd (omega arith)
+is_start (UInfo i d) rest same = absurd (omega arith)
+is_start (UTxDemand i) rest same = absurd (omega arith)
+is_start (UTxCeased i) rest same = absurd (omega arith)
+is_start (UCallRestore i a q) rest same = absurd (omega arith)
+is_start (Stop n) rest same = absurd (omega arith)
+is_start (Start n o) rest same = (n, (o, refl))
+is_start (Configure p) rest same = absurd (omega arith)
+is_start Cancel rest same = absurd (omega arith)
+is_start (Place at) rest same = absurd (omega arith)
+is_start (ChannelAnswer n v) rest same = absurd (omega arith)
+is_start (SetupIndication i a d) rest same = absurd (omega arith)
+is_start (SetupConfirm i g) rest same = absurd (omega arith)
+is_start Proceed rest same = absurd (omega arith)
+is_start Alert rest same = absurd (omega arith)
+is_start (Complete g) rest same = absurd (omega arith)
+is_start (ReleaseIndication c) rest same = absurd (omega arith)
+is_start ReleaseConfirm rest same = absurd (omega arith)
+is_start (TxIndication x) rest same = absurd (omega arith)
+is_start (ModifyIndication d s) rest same = absurd (omega arith)
 
 -- the timer and the code that a START's bytes hold
-start-numbers : (timer code : ℕ) (rest : List ℕ) → fine messages (Start timer code) ≡ true
+start_numbers : (timer code : ℕ) (rest : List ℕ) → fine messages (Start timer code) ≡ true
     → (number 2 (message_bytes (Start timer code) ++ rest) 4 ≡ timer) × (get_or (message_bytes (Start timer code) ++ rest) 6 0 ≡ code)
 unfolding number message_bytes flat_bytes flat_size body_bytes bytes fine flat_fits all_fit
-start-numbers timer code rest h =
+start_numbers timer code rest h =
     let both : (fits letter_n timer && (fits letter_o code && true)) ≡ true = left _ _ h in
     let t : timer < 65536 = below letter_n timer (left (fits letter_n timer) _ both) in
     let c : code < 256 = below letter_o code (left (fits letter_o code) _ (right (fits letter_n timer) _ both)) in
     (omega arith, omega arith)
 
-start-long : (timer code : ℕ) (rest : List ℕ) → 7 ≤ length (message_bytes (Start timer code) ++ rest)
+start_long : (timer code : ℕ) (rest : List ℕ) → 7 ≤ length (message_bytes (Start timer code) ++ rest)
 unfolding message_bytes flat_bytes flat_size body_bytes bytes
-start-long timer code rest = omega arith
+start_long timer code rest = omega arith
 
 -- ---- the message at the front of some bytes
 
-pub front-four : (s : List ℕ) (m : Message) → Front s m → 4 ≤ length s
-front-four s m f = rw (f.1.1, length-append) (omega (arith, (headed m f.1.0).four))
+pub front_four : (s : List ℕ) (m : Message) → Front s m → 4 ≤ length s
+front_four s m f = rw (f.1.1, length-append) (omega (arith, (headed m f.1.0).four))
 
-pub front-two : (s : List ℕ) → Begins s → 2 ≤ length s
-front-two s (m, f) = omega (arith, front-four s m f)
+pub front_two : (s : List ℕ) → Begins s → 2 ≤ length s
+front_two s (m, f) = omega (arith, front_four s m f)
 
-pub front-size : (s : List ℕ) (m : Message) (f : Front s m) → number 2 s 0 ≡ length (message_bytes m)
-front-size s m f = rw f.1.1 (headed m f.1.0).size
+pub front_size : (s : List ℕ) (m : Message) (f : Front s m) → number 2 s 0 ≡ length (message_bytes m)
+front_size s m f = rw f.1.1 (headed m f.1.0).size
 
 pub other_done : (lengths : List ℕ) (b : Bank) (s : List ℕ) {kind : ℕ} → kind ≡ number 2 s 2 → (kind ≡ 0x0602 → ⊥) → FirstDone lengths b s b
 other_done lengths b s e other m f = not_start lengths b m f.1.0 (λ same. other (e ∙ ap (λ (x : List ℕ). number 2 x 2) f.1.1 ∙ same))
 
 -- one of START's kind
-started-by : (s : List ℕ) (m : Message) → Front s m → {kind : ℕ} → kind ≡ number 2 s 2 → kind ≡ 0x0602 → (timer : ℕ) × ((code : ℕ) × (m ≡ Start timer code))
-started-by s m f e same = is-start m f.1.0 (ap (λ (x : List ℕ). number 2 x 2) (sym f.1.1) ∙ sym e ∙ same)
+started_by_lem : (s : List ℕ) (m : Message) → Front s m → {kind : ℕ} → kind ≡ number 2 s 2 → kind ≡ 0x0602 → (timer : ℕ) × ((code : ℕ) × (m ≡ Start timer code))
+started_by_lem s m f e same = is_start m f.1.0 (ap (λ (x : List ℕ). number 2 x 2) (sym f.1.1) ∙ sym e ∙ same)
 
-pub front-seven : (s : List ℕ) (m : Message) → Front s m → {kind : ℕ} → kind ≡ number 2 s 2 → kind ≡ 0x0602 → 7 ≤ length s
-front-seven s m f e same =
-    let w : (timer : ℕ) × ((code : ℕ) × (m ≡ Start timer code)) = started-by s m f e same in
-    rw (f.1.1, w.1.1) (start-long w.0 w.1.0 f.1.0)
+pub front_seven : (s : List ℕ) (m : Message) → Front s m → {kind : ℕ} → kind ≡ number 2 s 2 → kind ≡ 0x0602 → 7 ≤ length s
+front_seven s m f e same =
+    let w : (timer : ℕ) × ((code : ℕ) × (m ≡ Start timer code)) = started_by_lem s m f e same in
+    rw (f.1.1, w.1.1) (start_long w.0 w.1.0 f.1.0)
 
 pub front_six : (s : List ℕ) (m : Message) → Front s m → {kind : ℕ} → kind ≡ number 2 s 2 → kind ≡ 0x0602 → 6 ≤ length s
-front_six s m f e same = omega (arith, front-seven s m f e same)
+front_six s m f e same = omega (arith, front_seven s m f e same)
 
-start-at : (lengths : List ℕ) (b : Bank) (s rest : List ℕ) (n o timer code : ℕ) → fine messages (Start n o) ≡ true → s ≡ message_bytes (Start n o) ++ rest
+start_at : (lengths : List ℕ) (b : Bank) (s rest : List ℕ) (n o timer code : ℕ) → fine messages (Start n o) ≡ true → s ≡ message_bytes (Start n o) ++ rest
     → timer ≡ number 2 s 4 → code ≡ get_or s 6 0 → (started b lengths timer code).bank ≡ started_by lengths b (Start n o)
 unfolding started_by
-start-at lengths b s rest n o timer code h is t c =
-    let ns : (number 2 (message_bytes (Start n o) ++ rest) 4 ≡ n) × (get_or (message_bytes (Start n o) ++ rest) 6 0 ≡ o) = start-numbers n o rest h in
-    let timer-is : timer ≡ n = t ∙ ap (λ (x : List ℕ). number 2 x 4) is ∙ ns.0 in
+start_at lengths b s rest n o timer code h is t c =
+    let ns : (number 2 (message_bytes (Start n o) ++ rest) 4 ≡ n) × (get_or (message_bytes (Start n o) ++ rest) 6 0 ≡ o) = start_numbers n o rest h in
+    let timer_is : timer ≡ n = t ∙ ap (λ (x : List ℕ). number 2 x 4) is ∙ ns.0 in
     let code_is : code ≡ o = c ∙ ap (λ (x : List ℕ). get_or x 6 0) is ∙ ns.1 in
-    rw (timer-is, code_is)
+    rw (timer_is, code_is)
 
 pub start_done : (lengths : List ℕ) (b : Bank) (s : List ℕ) {kind timer code : ℕ} (r : Ordered) → kind ≡ number 2 s 2 → kind ≡ 0x0602 → timer ≡ number 2 s 4 → code ≡ get_or s 6 0
     → as_ordered r ≡ started b lengths timer code → FirstDone lengths b s r.bank
 start_done lengths b s {kind} {timer} {code} r e same t c ordered m f =
-    let w : (n : ℕ) × ((o : ℕ) × (m ≡ Start n o)) = started-by s m f e same in
+    let w : (n : ℕ) × ((o : ℕ) × (m ≡ Start n o)) = started_by_lem s m f e same in
     ap (λ (x : Outcome). x.bank) ordered
-    ∙ start-at lengths b s f.1.0 w.0 w.1.0 timer code (subst (λ (x : Message). fine messages x ≡ true) w.1.1 f.0) (subst (λ (x : Message). s ≡ message_bytes x ++ f.1.0) w.1.1 f.1.1) t c
+    ∙ start_at lengths b s f.1.0 w.0 w.1.0 timer code (subst (λ (x : Message). fine messages x ≡ true) w.1.1 f.0) (subst (λ (x : Message). s ≡ message_bytes x ++ f.1.0) w.1.1 f.1.1) t c
     ∙ ap (started_by lengths b) (sym w.1.1)
 
 -- ---- one message after the other
@@ -190,9 +190,9 @@ first_of written at [] h w =
     let none : length written - at ≡ 0 = sym (length-drop at written) ∙ ap length w.1 in absurd (omega arith)
 first_of written at (m ∷ ms) h w = (m, (left (fine messages m) _ w.0, (bytes_of ms, w.1)))
 
-pub begins-at : (lengths written : List ℕ) (b₀ b : Bank) (at : ℕ) → at < length written → AllMessages written → Going lengths written b₀ b at
+pub begins_at : (lengths written : List ℕ) (b₀ b : Bank) (at : ℕ) → at < length written → AllMessages written → Going lengths written b₀ b at
     → Begins (take (length written - at) (drop at written))
-begins-at lengths written b₀ b at h (all, w) going =
+begins_at lengths written b₀ b at h (all, w) going =
     subst Begins (sym (all_left written at)) (first_of written at (going all w).0 h (going all w).1.0)
 
 -- its length leads to the next
@@ -204,7 +204,7 @@ one_on lengths written b next at size [] h w done is =
     let none : length written - at ≡ 0 = sym (length-drop at written) ∙ ap length w.1 in absurd (omega arith)
 one_on lengths written b next at size (m ∷ ms) h w done is =
     let f : Front (drop at written) m = (left (fine messages m) _ w.0, (bytes_of ms, w.1)) in
-    let long : size ≡ length (message_bytes m) = is ∙ front-size (drop at written) m f in
+    let long : size ≡ length (message_bytes m) = is ∙ front_size (drop at written) m f in
     let rest : drop (at + size) written ≡ bytes_of ms = sym (drop-drop size at written) ∙ ap (drop size) w.1 ∙ ap (λ (k : ℕ). drop k (message_bytes m ++ bytes_of ms)) long ∙ drop-append_seam (message_bytes m) (bytes_of ms) in
     (ms, ((right (fine messages m) _ w.0, rest), ap (λ (x : Bank). started_all lengths x ms) (sym (done m f))))
 
@@ -221,7 +221,7 @@ goes_on lengths written b₀ b next at size h going done is all w =
 pub within : (written : List ℕ) (at size : ℕ) → at < length written → Begins (take (length written - at) (drop at written))
     → size ≡ number 2 (take (length written - at) (drop at written)) 0 → (at + size ≤ length written) × (0 < size)
 within written at size h (m, f) is =
-    let long : size ≡ length (message_bytes m) = is ∙ front-size (take (length written - at) (drop at written)) m f in
+    let long : size ≡ length (message_bytes m) = is ∙ front_size (take (length written - at) (drop at written)) m f in
     let all : length written - at ≡ length (message_bytes m) + length f.1.0
     = sym (length-drop at written) ∙ ap length (sym (all_left written at) ∙ f.1.1) ∙ length-append (message_bytes m) f.1.0 in
     (omega (arith, (headed m f.1.0).four), omega (arith, (headed m f.1.0).four))

@@ -25,9 +25,9 @@ use Rattle.timed.specs.Runs.{Turn, step, due, time_of, table_of, outcome, is_tak
 use Rattle.timed.specs.Demands.{expiries, dues, NotOrdered, OnTime}
 use Rattle.timed.proofs.Ledger.{none≢some}
 use Rattle.timed.proofs.Turns.{Did, Refused, Waited, Stepped, Lapsed, refused, waited, stepped, lapsed, did, lapse_turn}
-use Rattle.timed.proofs.Holding.{Holds, every-run, holds_then, none-due, step-takes, no_lapse, writes_one}
-use Rattle.timed.proofs.OnTime.{clocks-refused, clocks_waited, clocks-made, clocks-then, n₀, is-first, first-number}
-use Rattle.timed.proofs.Silence.{answered, is-taken, not_late}
+use Rattle.timed.proofs.Holding.{Holds, every_run, holds_then, none_due, step_takes, no_lapse, writes_one}
+use Rattle.timed.proofs.OnTime.{clocks_refused, clocks_waited, clocks_made, clocks_then, n₀, is_first, first_number}
+use Rattle.timed.proofs.Silence.{answered, is_taken_lem, not_late}
 
 -- ---- messages that give no order to a timer
 
@@ -75,24 +75,24 @@ module _ (k : Kept) (h : Holds k) (n : ℕ) where
   abbrev Alone : Turn → Type 0
   Alone d = ordered n (written_by k.timed d) ≡ false
 
-  same-stepped : (table : List ℕ) (time : ℕ) (event buffer : List ℕ) → Stepped k.timed table time event buffer → Alone (step table time event buffer)
+  same_stepped : (table : List ℕ) (time : ℕ) (event buffer : List ℕ) → Stepped k.timed table time event buffer → Alone (step table time event buffer)
       → (then k (step table time event buffer)).clocks n ≡ k.clocks n
-  same-stepped table time event buffer r alone =
+  same_stepped table time event buffer r alone =
       let c = k.timed.call in
       let u = turn_of event buffer in
-      let e = step-takes k h table time event buffer r in
+      let e = step_takes k h table time event buffer r in
       let quiet : ordered n (Steps.written_by c u) ≡ false = sym (ap (ordered n) (ap (λ (ts : List Steps.Turn). Steps.written_in c ts) r.steps ∙ writes_one c u)) ∙ alone in
-      ap (λ (v : Clocks). v n) (clocks-made k (step table time event buffer) u e.0 r.steps e.1.0)
+      ap (λ (v : Clocks). v n) (clocks_made k (step table time event buffer) u e.0 r.steps e.1.0)
       ∙ all_alone table time n (lapse k.clocks e.0) (Steps.written_by c u) quiet
       ∙ ap (λ (v : Clocks). v n) (no_lapse k.clocks c.timers e.0 e.1.1).0
 
-  after-lapse : (table : List ℕ) (time : ℕ) (buffer : List ℕ) (i : InReach k (due table time buffer)) (r : Lapsed k.timed table time buffer) → Alone (due table time buffer)
+  after_lapse : (table : List ℕ) (time : ℕ) (buffer : List ℕ) (i : InReach k (due table time buffer)) (r : Lapsed k.timed table time buffer) → Alone (due table time buffer)
       → (then k (due table time buffer)).clocks n ≡ dropped (n₀ k h table time buffer i r) k.clocks n
-  after-lapse table time buffer i r alone =
+  after_lapse table time buffer i r alone =
       let c = k.timed.call in
       let u = lapse_turn k.timed time buffer in
       let quiet : ordered n (Steps.written_by c u) ≡ false = sym (ap (ordered n) (ap (λ (ts : List Steps.Turn). Steps.written_in c ts) r.steps ∙ writes_one c u)) ∙ alone in
-      ap (λ (v : Clocks). v n) (clocks-then k h table time buffer i r) ∙ all_alone table time n (dropped (n₀ k h table time buffer i r) k.clocks) (Steps.written_by c u) quiet
+      ap (λ (v : Clocks). v n) (clocks_then k h table time buffer i r) ∙ all_alone table time n (dropped (n₀ k h table time buffer i r) k.clocks) (Steps.written_by c u) quiet
 
 -- ---- what one due adds to the lists
 
@@ -121,17 +121,17 @@ module _ (n : ℕ) (k : Kept) (table : List ℕ) (time : ℕ) (buffer : List ℕ
 
 -- ---- a timer that does not run and is not started does not expire
 
-silent-due : (k : Kept) (h : Holds k) (n : ℕ) → k.clocks n ≡ none → (table : List ℕ) (time : ℕ) (buffer : List ℕ) → InReach k (due table time buffer) → Did k.timed (due table time buffer)
+silent_due : (k : Kept) (h : Holds k) (n : ℕ) → k.clocks n ≡ none → (table : List ℕ) (time : ℕ) (buffer : List ℕ) → InReach k (due table time buffer) → Did k.timed (due table time buffer)
     → ordered n (written_by k.timed (due table time buffer)) ≡ false
     → (expires_at n k table time buffer ≡ []) × ((then k (due table time buffer)).clocks n ≡ none)
-silent-due k h n z table time buffer i (refused r) o = ((refused_lists n k table time buffer r).0, ap (λ (v : Clocks). v n) (clocks-refused k (due table time buffer) r) ∙ z)
-silent-due k h n z table time buffer i (waited r) o = ((waited_lists n k table time buffer r).0, ap (λ (v : Clocks). v n) (clocks_waited k table time buffer r) ∙ z)
-silent-due k h n z table time buffer i (lapsed r) o =
+silent_due k h n z table time buffer i (refused r) o = ((refused_lists n k table time buffer r).0, ap (λ (v : Clocks). v n) (clocks_refused k (due table time buffer) r) ∙ z)
+silent_due k h n z table time buffer i (waited r) o = ((waited_lists n k table time buffer r).0, ap (λ (v : Clocks). v n) (clocks_waited k table time buffer r) ∙ z)
+silent_due k h n z table time buffer i (lapsed r) o =
     let first = n₀ k h table time buffer i r in
-    let other : eqb first n ≡ false = ne_eqb first n (λ e. none≢some (sym z ∙ ap k.clocks (sym e) ∙ (is-first k h table time buffer i r).runs)) in
-    let same : eqb (first_due k.timed (shown time)) n ≡ false = ap (λ m. eqb m n) (first-number k h table time buffer i r) ∙ other in (
+    let other : eqb first n ≡ false = ne_eqb first n (λ e. none≢some (sym z ∙ ap k.clocks (sym e) ∙ (is_first k h table time buffer i r).runs)) in
+    let same : eqb (first_due k.timed (shown time)) n ≡ false = ap (λ m. eqb m n) (first_number k h table time buffer i r) ∙ other in (
       (lapsed_lists n k table time buffer false r same).0,
-      after-lapse k h n table time buffer i r o ∙ by_test (eqb n first) none (k.clocks n) (λ v. v ≡ none) (λ q. refl) (λ q. z),
+      after_lapse k h n table time buffer i r o ∙ by_test (eqb n first) none (k.clocks n) (λ v. v ≡ none) (λ q. refl) (λ q. z),
     )
 
 silent : (k : Kept) → Holds k → (n : ℕ) → k.clocks n ≡ none → (es : List Turn) → AllInReach k es → NotOrdered n k es → expiries n k es ≡ []
@@ -142,11 +142,11 @@ silent k h n z (step table time event buffer ∷ es) i o =
     silent (then k d) (holds_then k h d i.0) n (keeps (did k.timed d)) es i.1 o.1
   where
     keeps : Did k.timed (step table time event buffer) → (then k (step table time event buffer)).clocks n ≡ none
-    keeps (refused r) = ap (λ (v : Clocks). v n) (clocks-refused k (step table time event buffer) r) ∙ z
-    keeps (stepped r) = same-stepped k h n table time event buffer r o.0 ∙ z
+    keeps (refused r) = ap (λ (v : Clocks). v n) (clocks_refused k (step table time event buffer) r) ∙ z
+    keeps (stepped r) = same_stepped k h n table time event buffer r o.0 ∙ z
 silent k h n z (due table time buffer ∷ es) i o =
     let d = due table time buffer in
-    let now = silent-due k h n z table time buffer i.0 (did k.timed d) o.0 in
+    let now = silent_due k h n z table time buffer i.0 (did k.timed d) o.0 in
     rw now.0 (silent (then k d) (holds_then k h d i.0) n now.1 es i.1 o.1)
 
 -- ---- one that runs
@@ -165,30 +165,30 @@ data Now (n : ℕ) (x : Begun) (k : Kept) (table : List ℕ) (time : ℕ) (buffe
   expires : (then k (due table time buffer)).clocks n ≡ none → expires_at n k table time buffer ≡ time ∷ [] → ((rest : List ℕ) → first_from (end x) (due_at n k table time buffer ++ rest) ≡ time ∷ [])
       → Now n x k table time buffer
 
-due-now : (k : Kept) (h : Holds k) (n : ℕ) (x : Begun) → k.clocks n ≡ some x → (table : List ℕ) (time : ℕ) (buffer : List ℕ) → InReach k (due table time buffer)
+due_now : (k : Kept) (h : Holds k) (n : ℕ) (x : Begun) → k.clocks n ≡ some x → (table : List ℕ) (time : ℕ) (buffer : List ℕ) → InReach k (due table time buffer)
     → Did k.timed (due table time buffer) → ordered n (written_by k.timed (due table time buffer)) ≡ false → Now n x k table time buffer
-due-now k h n x z table time buffer i (refused r) o =
+due_now k h n x z table time buffer i (refused r) o =
     let lists = refused_lists n k table time buffer r in
-    goes_on (ap (λ (v : Clocks). v n) (clocks-refused k (due table time buffer) r) ∙ z) lists.0 (λ rest. rw lists.1)
-due-now k h n x z table time buffer i (waited r) o =
+    goes_on (ap (λ (v : Clocks). v n) (clocks_refused k (due table time buffer) r) ∙ z) lists.0 (λ rest. rw lists.1)
+due_now k h n x z table time buffer i (waited r) o =
     let lists = waited_lists n k table time buffer r in
-    let early = not_late time (k.clocks n) x z (none-due k h time i.not_earlier i.near r.none-due n) in
+    let early = not_late time (k.clocks n) x z (none_due k h time i.not_earlier i.near r.none_due n) in
     goes_on (ap (λ (v : Clocks). v n) (clocks_waited k table time buffer r) ∙ z) lists.0 (λ rest. rw (lists.1, lt-leb (end x) time early))
-due-now k h n x z table time buffer i (lapsed r) o =
+due_now k h n x z table time buffer i (lapsed r) o =
     let first = n₀ k h table time buffer i r in
-    let number = first-number k h table time buffer i r in
-    let f = is-first k h table time buffer i r in
+    let number = first_number k h table time buffer i r in
+    let f = is_first k h table time buffer i r in
     decide (eqb first n)
     (λ e.
     let lists = lapsed_lists n k table time buffer true r (ap (λ m. eqb m n) number ∙ e) in
     let runs : k.clocks n ≡ some f.clock = ap k.clocks (sym (eqb-true first n e)) ∙ f.runs in
     let past : end x ≤ time = rw (some_same (sym z ∙ runs)) f.due in
     let gone : dropped first k.clocks n ≡ none = rw (eq-eqb n first (sym (eqb-true first n e))) in
-    expires (after-lapse k h n table time buffer i r o ∙ gone) lists.0 (λ rest. rw (lists.1, le-leb (end x) time past)))
+    expires (after_lapse k h n table time buffer i r o ∙ gone) lists.0 (λ rest. rw (lists.1, le-leb (end x) time past)))
     (λ e.
     let lists = lapsed_lists n k table time buffer false r (ap (λ m. eqb m n) number ∙ e) in
     let stays : dropped first k.clocks n ≡ some x = rw (ne_eqb n first (λ q. eqb-false first n e (sym q))) z in
-    goes_on (after-lapse k h n table time buffer i r o ∙ stays) lists.0 (λ rest. rw lists.1))
+    goes_on (after_lapse k h n table time buffer i r o ∙ stays) lists.0 (λ rest. rw lists.1))
 
 in_time : (k : Kept) → Holds k → (n : ℕ) (x : Begun) → k.clocks n ≡ some x → (es : List Turn) → AllInReach k es → NotOrdered n k es → expiries n k es ≡ first_from (end x) (dues n k es)
 unfolding expiries dues
@@ -198,10 +198,10 @@ in_time k h n x z (step table time event buffer ∷ es) i o =
     in_time (then k d) (holds_then k h d i.0) n x (keeps (did k.timed d)) es i.1 o.1
   where
     keeps : Did k.timed (step table time event buffer) → (then k (step table time event buffer)).clocks n ≡ some x
-    keeps (refused r) = ap (λ (v : Clocks). v n) (clocks-refused k (step table time event buffer) r) ∙ z
-    keeps (stepped r) = same-stepped k h n table time event buffer r o.0 ∙ z
+    keeps (refused r) = ap (λ (v : Clocks). v n) (clocks_refused k (step table time event buffer) r) ∙ z
+    keeps (stepped r) = same_stepped k h n table time event buffer r o.0 ∙ z
 in_time k h n x z (due table time buffer ∷ es) i o =
-    by (due-now k h n x z table time buffer i.0 (did k.timed (due table time buffer)) o.0)
+    by (due_now k h n x z table time buffer i.0 (did k.timed (due table time buffer)) o.0)
     (λ s. in_time (then k (due table time buffer)) (holds_then k h (due table time buffer) i.0) n x s es i.1 o.1)
   where
     by : Now n x k table time buffer
@@ -212,4 +212,4 @@ in_time k h n x z (due table time buffer ∷ es) i o =
         rw (e, f (dues n (then k (due table time buffer)) es), silent (then k (due table time buffer)) (holds_then k h (due table time buffer) i.0) n s es i.1 o.1)
 
 pub on_time : OnTime
-on_time time ds es n x all i runs o = in_time (after (made time) ds) (every-run time ds all) n x runs es i o
+on_time time ds es n x all i runs o = in_time (after (made time) ds) (every_run time ds all) n x runs es i o

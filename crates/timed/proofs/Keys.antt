@@ -20,22 +20,22 @@ record Running (b : Bank) (reading y : ℕ) : Type 0 where
   late : ℕ
   is : y ≡ late * 8 + (7 - index)
 
-forward-small : (a b : ℕ) → forward a b < 4294967296
+forward_small : (a b : ℕ) → forward a b < 4294967296
 unfolding forward
-forward-small a b = omega arith
+forward_small a b = omega arith
 
 key_small : (p : ℕ) (r : Bool) (d reading : ℕ) → key_of p r d reading < 34359738368
 unfolding key_of
 key_small p true d reading =
-    by_test (is_back (forward d reading)) 0 (forward d reading * 8 + (7 - p)) (λ y. y < 34359738368) (λ q. lit< tt) (λ q. omega (arith, forward-small d reading))
+    by_test (is_back (forward d reading)) 0 (forward d reading * 8 + (7 - p)) (λ y. y < 34359738368) (λ q. lit< tt) (λ q. omega (arith, forward_small d reading))
 key_small p false d reading = lit< tt
 
-is-running : (b : Bank) (reading p : ℕ) → p < 7 → (r : Bool) → get_or b.running p false ≡ r → (d : ℕ) → 0 < key_of p r d reading → Running b reading (key_of p r d reading)
+is_running : (b : Bank) (reading p : ℕ) → p < 7 → (r : Bool) → get_or b.running p false ≡ r → (d : ℕ) → 0 < key_of p r d reading → Running b reading (key_of p r d reading)
 unfolding key_of
-is-running b reading p k true e d =
+is_running b reading p k true e d =
     by_test (is_back (forward d reading)) 0 (forward d reading * 8 + (7 - p)) (λ y. 0 < y → Running b reading y) (λ q h. absurd (omega arith))
     (λ q h. record { index = p; one_of_seven = k; runs = e; late = forward d reading; is = refl })
-is-running b reading p k false e d = λ h. absurd (omega arith)
+is_running b reading p k false e d = λ h. absurd (omega arith)
 
 module _ (b : Bank) (reading : ℕ) where
   key : ℕ → ℕ
@@ -45,16 +45,16 @@ module _ (b : Bank) (reading : ℕ) where
   unfolding key
   small_at p = key_small p (get_or b.running p false) (get_or b.deadlines p 0) reading
 
-  running-at : (p : ℕ) → p < 7 → 0 < key p → Running b reading (key p)
+  running_at : (p : ℕ) → p < 7 → 0 < key p → Running b reading (key p)
   unfolding key
-  running-at p k = is-running b reading p k (get_or b.running p false) refl (get_or b.deadlines p 0)
+  running_at p k = is_running b reading p k (get_or b.running p false) refl (get_or b.deadlines p 0)
 
   most_due : (count_of (keys_at b reading) ≡ 0 → ⊥) → Greatest (Running b reading) (keys_at b reading)
   unfolding keys_at keys_of key
   most_due =
       greatest (Running b reading) (key 0) (key 1) (key 2) (key 3) (key 4) (key 5) (key 6)
       (small_at 0, (small_at 1, (small_at 2, (small_at 3, (small_at 4, (small_at 5, (small_at 6, tt)))))))
-      (running-at 0 (lit< tt), (running-at 1 (lit< tt), (running-at 2 (lit< tt), (running-at 3 (lit< tt), (running-at 4 (lit< tt), (running-at 5 (lit< tt), (running-at 6 (lit< tt), tt)))))))
+      (running_at 0 (lit< tt), (running_at 1 (lit< tt), (running_at 2 (lit< tt), (running_at 3 (lit< tt), (running_at 4 (lit< tt), (running_at 5 (lit< tt), (running_at 6 (lit< tt), tt)))))))
 
 pub head_handed : (n bound : ℕ) (keys : List ℕ) → (n ≡ 0 → ⊥) → get_or (handed n bound keys) 0 0 ≡ number_of (below bound keys)
 unfolding handed

@@ -15,9 +15,9 @@ use Rattle.timers.specs.Wrap.{shown, forward}
 use Rattle.timers.specs.Due.{numbers, key_of, keys_of, one_if, count_of, under, greater, below, number_of}
 use Rattle.timers.specs.Bank.{without, with, index_of, length_in, keys_at, advanced_to}
 use Rattle.timers.proofs.Tests.{decide, by_test, cond_same, All, weaken}
-use Rattle.timers.proofs.Indices.{by_index, by_number_lem, same-timer, other_timer, rising}
+use Rattle.timers.proofs.Indices.{by_index, by_number_lem, same_timer, other_timer, rising}
 use Rattle.timers.proofs.Wrapping.{not_back, back, ahead, behind}
-use Rattle.timers.proofs.Keys.{most, below-is, greater-is}
+use Rattle.timers.proofs.Keys.{most, below_is, greater_is}
 use Rattle.timers.proofs.Calls.{length_most}
 use Rattle.timed.specs.Times.{Begun, end, Clocks, no_clock, is_due, dropped, begun, Before, First}
 use Rattle.timed.specs.Set.{with_flags}
@@ -43,14 +43,14 @@ pub record Shows (b : Bank) (last : ℕ) (u : Clocks) : Type 0 where
   pub sevens : (length b.running ≡ 7) × (length b.deadlines ≡ 7)
 
 module _ (b : Bank) (last : ℕ) (u : Clocks) (h : Shows b last u) where
-  pub shows-stop : (n : ℕ) → index_of n < 7 → Shows (without b (index_of n)) last (dropped n u)
-  shows-stop n k =
+  pub shows_stop : (n : ℕ) → index_of n < 7 → Shows (without b (index_of n)) last (dropped n u)
+  shows_stop n k =
       let p = index_of n in
       record {
         at = h.at;
         timers =
             λ q l.
-            rw (same-timer q l n k)
+            rw (same_timer q l n k)
             (decide (eqb q p)
             (λ e. rw (e, eqb-true q p e, get_or-set_same b.running p false false (omega (arith, h.sevens.0, k))))
             (λ e. rw (e, get_or-set_other b.running p q false false (eqb-false q p e)) (h.timers q l)));
@@ -58,8 +58,8 @@ module _ (b : Bank) (last : ℕ) (u : Clocks) (h : Shows b last u) where
         sevens = (rw length-set h.sevens.0, h.sevens.1);
       }
 
-  pub shows-start : (table : List ℕ) (n code : ℕ) → index_of n < 7 → Shows (with b (index_of n) (length_in table n code)) last (begun table last n code u)
-  shows-start table n code k =
+  pub shows_start : (table : List ℕ) (n code : ℕ) → index_of n < 7 → Shows (with b (index_of n) (length_in table n code)) last (begun table last n code u)
+  shows_start table n code k =
       let p = index_of n in
       let long = length_in table n code in
       let most = length_most table n code in
@@ -68,7 +68,7 @@ module _ (b : Bank) (last : ℕ) (u : Clocks) (h : Shows b last u) where
         at = h.at;
         timers =
             λ q l.
-            rw (same-timer q l n k)
+            rw (same_timer q l n k)
             (decide (eqb q p)
             (λ e.
             rw (
@@ -96,10 +96,10 @@ later last time a r d none h = h
 later last time a r d (some x) h = (h.0, h.1, omega (arith, h.2))
 
 -- the bank that accepts a later reading, with the flags that it had
-pub shows-at : (b : Bank) (last time : ℕ) (u : Clocks) (flags : List Bool) → b.running ≡ flags → last ≤ time → Shows b last u
+pub shows_at : (b : Bank) (last time : ℕ) (u : Clocks) (flags : List Bool) → b.running ≡ flags → last ≤ time → Shows b last u
     → Shows (with_flags flags (advanced_to b (shown time))) time u
 unfolding advanced_to
-shows-at b last time u flags j a h =
+shows_at b last time u flags j a h =
     record {
       at = refl;
       timers = λ p k. rw (sym j) (later last time a (get_or b.running p false) (get_or b.deadlines p 0) (u (get_or numbers p 0)) (h.timers p k));
@@ -171,27 +171,27 @@ one_of P b (x ∷ xs) z a =
     (λ q. rw q (by_test (ltb x (most b xs)) (most b xs) x P (λ r. one_of P b xs z a.1) (λ r. a.0)))
     (λ q. rw q (by_test (ltb 0 (most b xs)) (most b xs) 0 P (λ r. one_of P b xs z a.1) (λ r. z)))
 
-none-greater : (b : ℕ) (xs : List ℕ) → All (λ y. y < b) xs → All (λ y. y ≤ most b xs) xs
+none_greater : (b : ℕ) (xs : List ℕ) → All (λ y. y < b) xs → All (λ y. y ≤ most b xs) xs
 unfolding under
-none-greater b [] a = tt
-none-greater b (x ∷ xs) a =
-    let is : most b (x ∷ xs) ≡ max x (most b xs) = rw (lt-ltb x b a.0) (greater-is x (most b xs)) in
-    (omega (arith, is), weaken xs (λ y k. omega (arith, is, k)) (none-greater b xs a.1))
+none_greater b [] a = tt
+none_greater b (x ∷ xs) a =
+    let is : most b (x ∷ xs) ≡ max x (most b xs) = rw (lt-ltb x b a.0) (greater_is x (most b xs)) in
+    (omega (arith, is), weaken xs (λ y k. omega (arith, is, k)) (none_greater b xs a.1))
 
-count-zero : (k0 k1 k2 k3 k4 k5 k6 : ℕ) → count_of (k0 ∷ k1 ∷ k2 ∷ k3 ∷ k4 ∷ k5 ∷ k6 ∷ []) ≡ 0
+count_zero : (k0 k1 k2 k3 k4 k5 k6 : ℕ) → count_of (k0 ∷ k1 ∷ k2 ∷ k3 ∷ k4 ∷ k5 ∷ k6 ∷ []) ≡ 0
     → (one_if k0 ≡ 0) × (one_if k1 ≡ 0) × (one_if k2 ≡ 0) × (one_if k3 ≡ 0) × (one_if k4 ≡ 0) × (one_if k5 ≡ 0) × (one_if k6 ≡ 0)
 unfolding count_of
-count-zero k0 k1 k2 k3 k4 k5 k6 h =
+count_zero k0 k1 k2 k3 k4 k5 k6 h =
     (omega (arith, h), omega (arith, h), omega (arith, h), omega (arith, h), omega (arith, h), omega (arith, h), omega (arith, h))
 
 one_zero : (m : ℕ) → one_if m ≡ 0 → m ≡ 0
 one_zero m e = decide (eqb m 0) (λ q. eqb-true m 0 q) (λ q. absurd (omega (arith, rw q at e)))
 
 -- where none is due every key is 0
-pub all-zero : (k0 k1 k2 k3 k4 k5 k6 : ℕ) → count_of (k0 ∷ k1 ∷ k2 ∷ k3 ∷ k4 ∷ k5 ∷ k6 ∷ []) ≡ 0
+pub all_zero : (k0 k1 k2 k3 k4 k5 k6 : ℕ) → count_of (k0 ∷ k1 ∷ k2 ∷ k3 ∷ k4 ∷ k5 ∷ k6 ∷ []) ≡ 0
     → All (λ y. y ≡ 0) (k0 ∷ k1 ∷ k2 ∷ k3 ∷ k4 ∷ k5 ∷ k6 ∷ [])
-all-zero k0 k1 k2 k3 k4 k5 k6 h =
-    let z = count-zero k0 k1 k2 k3 k4 k5 k6 h in
+all_zero k0 k1 k2 k3 k4 k5 k6 h =
+    let z = count_zero k0 k1 k2 k3 k4 k5 k6 h in
     (one_zero k0 z.0, (one_zero k1 z.1, (one_zero k2 z.2, (one_zero k3 z.3, (one_zero k4 z.4, (one_zero k5 z.5, (one_zero k6 z.6, tt)))))))
 
 none_counted : (k0 k1 k2 k3 k4 k5 k6 : ℕ) → All (λ y. y ≤ 0) (k0 ∷ k1 ∷ k2 ∷ k3 ∷ k4 ∷ k5 ∷ k6 ∷ []) → count_of (k0 ∷ k1 ∷ k2 ∷ k3 ∷ k4 ∷ k5 ∷ k6 ∷ []) ≡ 0
@@ -214,8 +214,8 @@ pub greatest : (Q : ℕ → Type 0) (k0 k1 k2 k3 k4 k5 k6 : ℕ) → All (λ y. 
     → Greatest Q (k0 ∷ k1 ∷ k2 ∷ k3 ∷ k4 ∷ k5 ∷ k6 ∷ [])
 greatest Q k0 k1 k2 k3 k4 k5 k6 small keys any =
     let ks : List ℕ = k0 ∷ k1 ∷ k2 ∷ k3 ∷ k4 ∷ k5 ∷ k6 ∷ [] in
-    let is = below-is 34359738368 k0 k1 k2 k3 k4 k5 k6 in
-    let least = none-greater 34359738368 ks small in
+    let is = below_is 34359738368 k0 k1 k2 k3 k4 k5 k6 in
+    let least = none_greater 34359738368 ks small in
     let above : 0 < most 34359738368 ks =
     decide (eqb (most 34359738368 ks) 0)
     (λ q. absurd (any (none_counted k0 k1 k2 k3 k4 k5 k6 (weaken {P = λ y. y ≤ most 34359738368 ks} {Q = λ y. y ≤ 0} ks (λ y k. let z = eqb-true (most 34359738368 ks) 0 q in omega (arith, z, k)) least))))
@@ -266,8 +266,8 @@ module _ (b : Bank) (last : ℕ) (u : Clocks) (h : Shows b last u) (time : ℕ) 
       (at 0 (lit< tt) low.0) (at 1 (lit< tt) low.1.0) (at 2 (lit< tt) low.1.1.0) (at 3 (lit< tt) low.1.1.1.0) (at 4 (lit< tt) low.1.1.1.1.0) (at 5 (lit< tt) low.1.1.1.1.1.0) (at 6 (lit< tt) low.1.1.1.1.1.1.0)
       (λ n e x runs past. let z : ◌≡◌ {A = Option Begun} none (some x) = sym (h.others n (omega (arith, e))) ∙ runs in absurd (none≢some z))
 
-  pub first-is : (count_of (keys_at b (shown time)) ≡ 0 → ⊥) → (p : ℕ) × ((p < 7) × (number_of (below 34359738368 (keys_at b (shown time))) ≡ get_or numbers p 0) × First u time (get_or numbers p 0))
-  first-is any =
+  pub first_is : (count_of (keys_at b (shown time)) ≡ 0 → ⊥) → (p : ℕ) × ((p < 7) × (number_of (below 34359738368 (keys_at b (shown time))) ≡ get_or numbers p 0) × First u time (get_or numbers p 0))
+  first_is any =
       let g = first_key (rw keys_are at any) in
       let k = g.one in (
         k.index,
@@ -283,9 +283,9 @@ module _ (b : Bank) (last : ℕ) (u : Clocks) (h : Shows b last u) (time : ℕ) 
   not_due p k (some x) e =
       decide (leb (end x) time) (λ q. let z : (time - end x) * 8 + (7 - p) ≡ 0 = rw q at e in absurd (omega (arith, z, k))) (λ q. q)
 
-  pub none-due-is : count_of (keys_at b (shown time)) ≡ 0 → (n : ℕ) → is_due time (u n) ≡ false
-  none-due-is e =
-      let z = all-zero (true_key time 0 (u 301)) (true_key time 1 (u 302)) (true_key time 2 (u 303)) (true_key time 3 (u 306)) (true_key time 4 (u 308)) (true_key time 5 (u 310)) (true_key time 6 (u 311)) (rw keys_are at e) in
+  pub none_due_is : count_of (keys_at b (shown time)) ≡ 0 → (n : ℕ) → is_due time (u n) ≡ false
+  none_due_is e =
+      let z = all_zero (true_key time 0 (u 301)) (true_key time 1 (u 302)) (true_key time 2 (u 303)) (true_key time 3 (u 306)) (true_key time 4 (u 308)) (true_key time 5 (u 310)) (true_key time 6 (u 311)) (rw keys_are at e) in
       by_number_lem (λ n. is_due time (u n) ≡ false)
       (not_due 0 (lit< tt) (u 301) z.0) (not_due 1 (lit< tt) (u 302) z.1.0) (not_due 2 (lit< tt) (u 303) z.1.1.0) (not_due 3 (lit< tt) (u 306) z.1.1.1.0) (not_due 4 (lit< tt) (u 308) z.1.1.1.1.0) (not_due 5 (lit< tt) (u 310) z.1.1.1.1.1.0) (not_due 6 (lit< tt) (u 311) z.1.1.1.1.1.1.0)
       (λ n e. rw (h.others n (omega (arith, e))))

@@ -24,8 +24,8 @@ use Rattle.timed.specs.Demands.{Silent, OffAir, Started, OutlivesNetwork}
 use Rattle.timed.proofs.Ledger.{none≢some}
 use Rattle.timed.proofs.Turns.{Did, Stepped, Lapsed, refused, waited, stepped, lapsed, did, lapse_turn}
 use Rattle.timed.proofs.Reach.{kept, clocked}
-use Rattle.timed.proofs.Holding.{Holds, holds-made, every-run, holds_after, holds_then, step-takes, limits-at, no_lapse}
-use Rattle.timed.proofs.OnTime.{noted-all-at, clocks-refused, clocks_waited, clocks-made, clocks-then, none_runs_lem, n₀, none_311, last-refused, last_taken, Quiet311, quiet-after, quiet-made, on_air_at}
+use Rattle.timed.proofs.Holding.{Holds, holds_made, every_run, holds_after, holds_then, step_takes, limits_at, no_lapse}
+use Rattle.timed.proofs.OnTime.{noted_all_at, clocks_refused, clocks_waited, clocks_made, clocks_then, none_runs_lem, n₀, none_311, last_refused, last_taken, Quiet311, quiet_after, quiet_made, on_air_at}
 use Rattle.timed.proofs.Fates.{Off, silenced, untouched, fate_311}
 use Rattle.timed.proofs.Silence.{answered, Plain, plain, outlives}
 
@@ -52,7 +52,7 @@ module _ (v : Option Begun) (k : Kept) (h : Holds k) where
       by e w (untouched f) = as_before (step table time event buffer) (ap (λ (u : Clocks). u 311) w.clocks ∙ f table time k.clocks) z
 
 air_then : (v : Option Begun) (k : Kept) → Holds k → {d : Turn} → Did k.timed d → InReach k d → has_word (taken_by k.timed d) ≡ false → Air v k → Air v (then k d)
-air_then v k h (refused {d} r) i s z = as_before v k h d (ap (λ (u : Clocks). u 311) (clocks-refused k d r)) z
+air_then v k h (refused {d} r) i s z = as_before v k h d (ap (λ (u : Clocks). u 311) (clocks_refused k d r)) z
 air_then v k h (waited {table} {time} {buffer} r) i s z = as_before v k h (due table time buffer) (ap (λ (u : Clocks). u 311) (clocks_waited k table time buffer r)) z
 air_then v k h (stepped {table} {time} {event} {buffer} r) i s z = air_stepped v k h table time event buffer i r s z
 air_then v k h (lapsed {table} {time} {buffer} r) i s z = silent (none_311 k h table time buffer i r)
@@ -73,24 +73,24 @@ since_later w time a none h = tt
 since_later w time a (some x) h = omega (arith, h, a)
 
 since_then : (k : Kept) → Holds k → {d : Turn} → Did k.timed d → InReach k d → (n : ℕ) → Since k.last (k.clocks n) → Since (then k d).last ((then k d).clocks n)
-since_then k h (refused {d} r) i n z = rw (last-refused k d r, clocks-refused k d r) z
+since_then k h (refused {d} r) i n z = rw (last_refused k d r, clocks_refused k d r) z
 since_then k h (waited {table} {time} {buffer} r) i n z =
     rw (last_taken k (due table time buffer) (answered k.timed (due table time buffer) r.gives refl), clocks_waited k table time buffer r) (since_later k.last time i.not_earlier (k.clocks n) z)
 since_then k h (stepped {table} {time} {event} {buffer} r) i n z =
     let c = k.timed.call in
     let u = turn_of event buffer in
-    let e = step-takes k h table time event buffer r in
+    let e = step_takes k h table time event buffer r in
     rw (
       last_taken k (step table time event buffer) (answered k.timed (step table time event buffer) r.gives refl),
-      clocks-made k (step table time event buffer) u e.0 r.steps e.1.0,
+      clocks_made k (step table time event buffer) u e.0 r.steps e.1.0,
       (no_lapse k.clocks c.timers e.0 e.1.1).0,
     )
-    (noted-all-at table time n (Since time) tt (λ o f l. omega arith) k.clocks (Steps.written_by c u) (step_in_range c u (kept c h.reach)) (limits-at c u) (since_later k.last time i.not_earlier (k.clocks n) z))
+    (noted_all_at table time n (Since time) tt (λ o f l. omega arith) k.clocks (Steps.written_by c u) (step_in_range c u (kept c h.reach)) (limits_at c u) (since_later k.last time i.not_earlier (k.clocks n) z))
 since_then k h (lapsed {table} {time} {buffer} r) i n z =
     let c = k.timed.call in
     let u = lapse_turn k.timed time buffer in
-    rw (last_taken k (due table time buffer) (answered k.timed (due table time buffer) r.gives refl), clocks-then k h table time buffer i r)
-    (noted-all-at table time n (Since time) tt (λ o f l. omega arith) (dropped (n₀ k h table time buffer i r) k.clocks) (Steps.written_by c u) (step_in_range c u (kept c h.reach)) (limits-at c u)
+    rw (last_taken k (due table time buffer) (answered k.timed (due table time buffer) r.gives refl), clocks_then k h table time buffer i r)
+    (noted_all_at table time n (Since time) tt (λ o f l. omega arith) (dropped (n₀ k h table time buffer i r) k.clocks) (Steps.written_by c u) (step_in_range c u (kept c h.reach)) (limits_at c u)
     (by_test (eqb n (n₀ k h table time buffer i r)) none (k.clocks n) (Since time) (λ q. tt) (λ q. since_later k.last time i.not_earlier (k.clocks n) z)))
 
 since_after : (k : Kept) → Holds k → (ds : List Turn) → AllInReach k ds → (n : ℕ) → Since k.last (k.clocks n) → Since (after k ds).last ((after k ds).clocks n)
@@ -105,7 +105,7 @@ since_made time n = tt
 pub started_so : Started
 started_so time ds n x all runs =
     let k = after (made time) ds in
-    let s : Since k.last (k.clocks n) = since_after (made time) (holds-made time) ds all n (since_made time n) in
+    let s : Since k.last (k.clocks n) = since_after (made time) (holds_made time) ds all n (since_made time n) in
     rw runs at s
 
 pub outlives_network : OutlivesNetwork
@@ -119,9 +119,9 @@ outlives_network time ds es long G L now x all i runs most some-long silence non
 pub off_air : OffAir
 off_air time ds es long G now all i most silence a b one =
     let k = after (made time) ds in
-    let h = every-run time ds all in
+    let h = every_run time ds all in
     let end-holds = holds_after k h es i in
-    let quiet = quiet-after k h es i (quiet-after (made time) (holds-made time) ds all (quiet-made time)) in
+    let quiet = quiet_after k h es i (quiet_after (made time) (holds_made time) ds all (quiet_made time)) in
     let y = on_air_at (after k es) end-holds quiet one in
     by y.0 y.1 y.2 (air_after (k.clocks 311) k h es i silence (same refl))
   where

@@ -25,9 +25,9 @@ pick : {A : Type 0} (a b : Bool) → (a || b) ≡ true → (a ≡ true → A) �
 pick true b h f g = f refl
 pick false b h f g = g h
 
-pub seven-timers : (P : ℕ → Type 0) → P 301 → P 302 → P 303 → P 306 → P 308 → P 310 → P 311 → (n : ℕ) → is_timer n ≡ true → P n
+pub seven_timers : (P : ℕ → Type 0) → P 301 → P 302 → P 303 → P 306 → P 308 → P 310 → P 311 → (n : ℕ) → is_timer n ≡ true → P n
 unfolding is_timer
-seven-timers P p₁ p₂ p₃ p₆ p₈ p₁₀ p₁₁ n h =
+seven_timers P p₁ p₂ p₃ p₆ p₈ p₁₀ p₁₁ n h =
     pick _ _ h
     (λ h. pick _ _ h
     (λ h. pick _ _ h
@@ -46,7 +46,7 @@ seven-timers P p₁ p₂ p₃ p₆ p₈ p₁₀ p₁₁ n h =
 -- the bank's index of a timer is the record's
 pub timer_index : (n : ℕ) → is_timer n ≡ true → (index_of n < 7) × (Clocks.index_of n ≡ index_of n)
 unfolding index_of Clocks.index_of
-timer_index = seven-timers (λ n. (index_of n < 7) × (Clocks.index_of n ≡ index_of n)) (lit< tt, refl) (lit< tt, refl) (lit< tt, refl) (lit< tt, refl) (lit< tt, refl) (lit< tt, refl) (lit< tt, refl)
+timer_index = seven_timers (λ n. (index_of n < 7) × (Clocks.index_of n ≡ index_of n)) (lit< tt, refl) (lit< tt, refl) (lit< tt, refl) (lit< tt, refl) (lit< tt, refl) (lit< tt, refl) (lit< tt, refl)
 
 -- ---- the table
 
@@ -79,8 +79,8 @@ both_right table h =
     let both = right (leb 22 (length table)) (timers_right table && limits_right table) h in
     (left (timers_right table) (limits_right table) both, right (timers_right table) (limits_right table) both)
 
-timer-length : (table : List ℕ) → table_right table ≡ true → (i : ℕ) → i ≤ 5 → 1 ≤ in_range (get_or table i 0)
-timer-length table h i k =
+timer_length : (table : List ℕ) → table_right table ≡ true → (i : ℕ) → i ≤ 5 → 1 ≤ in_range (get_or table i 0)
+timer_length table h i k =
     let same : 0 + i ≡ i = omega arith in
     in_range_lem (get_or table i 0) (rw same at (in_all table 0 5 (sym (timers_are table) ∙ (both_right table h).0) i k))
 
@@ -89,36 +89,36 @@ limit_length table h o a b =
     let same : 7 + (o - 1) ≡ 6 + o = omega arith in
     in_range_lem (get_or table (6 + o) 0) (rw same at (in_all table 7 14 (sym (limits_are table) ∙ (both_right table h).1) (o - 1) (omega arith)))
 
-pub long-enough : (table : List ℕ) → table_right table ≡ true → (n o : ℕ) → is_timer n ≡ true → o ≤ 15 → not (eqb n 310 && eqb o 0) ≡ true → 1 ≤ length_in table n o
+pub long_enough : (table : List ℕ) → table_right table ≡ true → (n o : ℕ) → is_timer n ≡ true → o ≤ 15 → not (eqb n 310 && eqb o 0) ≡ true → 1 ≤ length_in table n o
 unfolding length_in entry_of
-long-enough table h n o timer most limit =
+long_enough table h n o timer most limit =
     let ten : not (eqb o 0) ≡ true → 1 ≤ length_in table 310 o =
     λ z.
     decide (eqb o 0) (λ q. apart (rw q at z) refl)
     (λ q.
-    let some-code : 1 ≤ o = omega (arith, eqb-false o 0 q) in
-    rw (lt-ltb (6 + o) 22 (omega arith)) (limit_length table h o some-code most)) in
-    seven-timers (λ m. not (eqb m 310 && eqb o 0) ≡ true → 1 ≤ length_in table m o)
-    (λ z. timer-length table h 0 (lit≤ tt)) (λ z. timer-length table h 1 (lit≤ tt)) (λ z. timer-length table h 2 (lit≤ tt)) (λ z. timer-length table h 3 (lit≤ tt))
-    (λ z. timer-length table h 4 (lit≤ tt)) ten (λ z. timer-length table h 5 (lit≤ tt)) n timer limit
+    let some_code : 1 ≤ o = omega (arith, eqb-false o 0 q) in
+    rw (lt-ltb (6 + o) 22 (omega arith)) (limit_length table h o some_code most)) in
+    seven_timers (λ m. not (eqb m 310 && eqb o 0) ≡ true → 1 ≤ length_in table m o)
+    (λ z. timer_length table h 0 (lit≤ tt)) (λ z. timer_length table h 1 (lit≤ tt)) (λ z. timer_length table h 2 (lit≤ tt)) (λ z. timer_length table h 3 (lit≤ tt))
+    (λ z. timer_length table h 4 (lit≤ tt)) ten (λ z. timer_length table h 5 (lit≤ tt)) n timer limit
 
 -- ---- the messages
 
-pub stop-timer : (n : ℕ) → fine messages (Stop n) ≡ true → is_timer n ≡ true
+pub stop_timer : (n : ℕ) → fine messages (Stop n) ≡ true → is_timer n ≡ true
 unfolding fine flat_fits all_fit
-stop-timer n h = left _ _ (left _ _ h)
+stop_timer n h = left _ _ (left _ _ h)
 
-pub start-timer : (n o : ℕ) → fine messages (Start n o) ≡ true → is_timer n ≡ true
+pub start_timer : (n o : ℕ) → fine messages (Start n o) ≡ true → is_timer n ≡ true
 unfolding fine flat_fits all_fit
-start-timer n o h = left _ _ (left _ _ h)
+start_timer n o h = left _ _ (left _ _ h)
 
-start-code : (n o : ℕ) → fine messages (Start n o) ≡ true → o ≤ 15
+start_code : (n o : ℕ) → fine messages (Start n o) ≡ true → o ≤ 15
 unfolding fine flat_fits all_fit within
-start-code n o h = leb-true o 15 (right (leb 0 o) (leb o 15) (left (leb 0 o && leb o 15) true (right (is_timer n) ((leb 0 o && leb o 15) && true) (left _ _ h))))
+start_code n o h = leb-true o 15 (right (leb 0 o) (leb o 15) (left (leb 0 o && leb o 15) true (right (is_timer n) ((leb 0 o && leb o 15) && true) (left _ _ h))))
 
 start_limit : (n o : ℕ) → limits (Start n o) ≡ true → not (eqb n 310 && eqb o 0) ≡ true
 unfolding limits
 start_limit n o h = h
 
-pub start-long : (table : List ℕ) → table_right table ≡ true → (n o : ℕ) → fine messages (Start n o) ≡ true → limits (Start n o) ≡ true → 1 ≤ length_in table n o
-start-long table r n o f l = long-enough table r n o (start-timer n o f) (start-code n o f) (start_limit n o l)
+pub start_long : (table : List ℕ) → table_right table ≡ true → (n o : ℕ) → fine messages (Start n o) ≡ true → limits (Start n o) ≡ true → 1 ≤ length_in table n o
+start_long table r n o f l = long_enough table r n o (start_timer n o f) (start_code n o f) (start_limit n o l)

@@ -28,7 +28,7 @@ use Rattle.callcontrol.specs.Rows
 use Rattle.callcontrol.specs.Rows.{row_for}
 use Rattle.callcontrol.specs.Writing.{messages_in, bytes_of, count_of}
 use Rattle.callcontrol.specs.Step.{other_call, carried, decided, step_of}
-use Rattle.callcontrol.proofs.Laying.{size-messages}
+use Rattle.callcontrol.proofs.Laying.{size_messages}
 use Rattle.callcontrol.proofs.Verbs.{verbs}
 use Rattle.demands.specs.Runs as Steps
 use Rattle.demands.specs.Clocks.{log_in, index_of, note_messages, note_taken, note_log, running_by, runs_by}
@@ -37,13 +37,13 @@ use Rattle.demands.specs.Demands as demands
 use Rattle.demands.proofs.Facts.{apart, left, right}
 use Rattle.demands.proofs.ByRow.{Ender, t301, t302, t303, t306, t310, Row, is_row}
 use Rattle.demands.proofs.Bound.{slot, slot_size}
-use Rattle.demands.proofs.Turns.{run-append, run-last, accepts}
+use Rattle.demands.proofs.Turns.{run-append, run_last, accepts}
 use Rattle.demands.proofs.Sound.{always}
-use Rattle.demands.proofs.Tracked.{timers-by-messages}
-use Rattle.demands.proofs.Expiries.{by-messages, due-expiry}
+use Rattle.demands.proofs.Tracked.{timers_by_messages}
+use Rattle.demands.proofs.Expiries.{by_messages, due_expiry}
 use Rattle.demands.proofs.Timers.{Timed, idle, mo, mt, up, broken, restoring, wait, disconnect, Clocked, reached, Few, none, one, two, three, eight, ten, ten_eleven, eleven_only, six_only, six_ten, few}
 use Rattle.timed.specs.Entries.{turn_of, expiry_of}
-use Rattle.timed.proofs.Expiries.{expiry-reads}
+use Rattle.timed.proofs.Expiries.{expiry_reads}
 
 pub record Reach (c : Call) : Type 0 where
   pub turns : List Steps.Turn
@@ -77,12 +77,12 @@ tracked_at : (ts : List Steps.Turn) (u : Steps.Turn)
 unfolding running_by log_in note_log
 tracked_at ts u =
     let c = Steps.run fresh_call ts in
-    let before : note_log fresh_call.timers (log_in fresh_call ts) ≡ c.timers = timers-by-messages ts in
-    let whole : note_log fresh_call.timers (log_in fresh_call (ts ++ u ∷ [])) ≡ (Steps.run fresh_call (ts ++ u ∷ [])).timers = timers-by-messages (ts ++ u ∷ []) in
+    let before : note_log fresh_call.timers (log_in fresh_call ts) ≡ c.timers = timers_by_messages ts in
+    let whole : note_log fresh_call.timers (log_in fresh_call (ts ++ u ∷ [])) ≡ (Steps.run fresh_call (ts ++ u ∷ [])).timers = timers_by_messages (ts ++ u ∷ []) in
     let parts : note_log fresh_call.timers (log_in fresh_call (ts ++ u ∷ [])) ≡ note_log c.timers (log_in c (u ∷ [])) =
     ap (note_log fresh_call.timers) (log_append fresh_call ts (u ∷ [])) ∙ note-append fresh_call.timers (log_in fresh_call ts) (log_in c (u ∷ []))
     ∙ ap (λ (f : List Bool). note_log f (log_in c (u ∷ []))) before in
-    sym parts ∙ whole ∙ ap (λ (d : Call). d.timers) (run-last fresh_call ts u)
+    sym parts ∙ whole ∙ ap (λ (d : Call). d.timers) (run_last fresh_call ts u)
 
 pub tracked : (c : Call) → Reach c → (u : Steps.Turn)
     → note_messages (note_taken c.timers (Steps.taken_by c u)) (Steps.written_by c u) ≡ (Steps.next c u).timers
@@ -106,7 +106,7 @@ configured false = lit≤ tt
 
 light_size : (x : Draft) → Light x → length (bytes_of (messages_in x)) ≤ 30
 unfolding weight
-light_size x h = omega (arith, size-messages x, slot_size x.pdu, slot_size x.user, configured (not (eqb x.configure 0)), leb-true (weight x) 25 h)
+light_size x h = omega (arith, size_messages x, slot_size x.pdu, slot_size x.user, configured (not (eqb x.configure 0)), leb-true (weight x) 25 h)
 
 abbrev lapse : ℕ → Call → Draft
 lapse k c = draft c ▷ expired k ▷ release 2 ▷ tell (ReleaseIndication 2)
@@ -114,10 +114,10 @@ lapse k c = draft c ▷ expired k ▷ release 2 ▷ tell (ReleaseIndication 2)
 abbrev lapses : ℕ → Call → Bool
 lapses k c = not (runs c k) || leb (weight (lapse k c)) 25
 
-abbrev all-lapse : Call → Bool
-all-lapse c = lapses T301 c && lapses T302 c && lapses T303 c && lapses T306 c && lapses T310 c
+abbrev all_lapse : Call → Bool
+all_lapse c = lapses T301 c && lapses T302 c && lapses T303 c && lapses T306 c && lapses T310 c
 
-few_lapse : {c : Call} → Few c → all-lapse c ≡ true
+few_lapse : {c : Call} → Few c → all_lapse c ≡ true
 unfolding sizes
 few_lapse none = refl
 few_lapse one = refl
@@ -130,7 +130,7 @@ few_lapse eleven_only = refl
 few_lapse six_only = refl
 few_lapse six_ten = refl
 
-lapsed : (c : Call) → all-lapse c ≡ true → (m k : ℕ) → Ender m k → runs c k ≡ true → Light (lapse k c)
+lapsed : (c : Call) → all_lapse c ≡ true → (m k : ℕ) → Ender m k → runs c k ≡ true → Light (lapse k c)
 lapsed c h m k (t301 e) z = rw z at (let l : lapses T301 c ≡ true = search (left, right) depth 6 in l)
 lapsed c h m k (t302 e) z = rw z at (let l : lapses T302 c ≡ true = search (left, right) depth 6 in l)
 lapsed c h m k (t303 e) z = rw z at (let l : lapses T303 c ≡ true = search (left, right) depth 6 in l)
@@ -143,16 +143,16 @@ light {c} (Row.expires l n k t z) v = lapsed c (few_lapse (few v)) n k t z
 light (Row.talked_out n z y) (up {t}) = elim t [ true ↦ refl | false ↦ refl ]
 light (Row.unanswered n z) disconnect = refl
 
-pub expiry-short : (c : Call) (n : ℕ) → Reach c → (row_for c (Expiry n)).taken ≡ true → length (bytes_of (messages_in (row_for c (Expiry n)))) ≤ 30
-expiry-short c n r h = light_size (row_for c (Expiry n)) (light (is_row c (Expiry n) h) (clocked c r))
+pub expiry_short : (c : Call) (n : ℕ) → Reach c → (row_for c (Expiry n)).taken ≡ true → length (bytes_of (messages_in (row_for c (Expiry n)))) ≤ 30
+expiry_short c n r h = light_size (row_for c (Expiry n)) (light (is_row c (Expiry n) h) (clocked c r))
 
 -- ---- an expiry of a timer that runs
 
-pub reads-expiry : (p : ℕ) → p < 7 → read events (expiry_of (get_or numbers p 0)) ≡ taken (Expiry (get_or numbers p 0))
+pub reads_expiry : (p : ℕ) → p < 7 → read events (expiry_of (get_or numbers p 0)) ≡ taken (Expiry (get_or numbers p 0))
 unfolding Bank.index_of
-reads-expiry =
-    by_index (λ p. read events (expiry_of (get_or numbers p 0)) ≡ taken (Expiry (get_or numbers p 0))) (expiry-reads 301 (lit< tt)) (expiry-reads 302 (lit< tt)) (expiry-reads 303 (lit< tt))
-    (expiry-reads 306 (lit< tt)) (expiry-reads 308 (lit< tt)) (expiry-reads 310 (lit< tt)) (expiry-reads 311 (lit< tt))
+reads_expiry =
+    by_index (λ p. read events (expiry_of (get_or numbers p 0)) ≡ taken (Expiry (get_or numbers p 0))) (expiry_reads 301 (lit< tt)) (expiry_reads 302 (lit< tt)) (expiry_reads 303 (lit< tt))
+    (expiry_reads 306 (lit< tt)) (expiry_reads 308 (lit< tt)) (expiry_reads 310 (lit< tt)) (expiry_reads 311 (lit< tt))
 
 index_is : (p : ℕ) → p < 7 → index_of (get_or numbers p 0) ≡ p
 unfolding index_of
@@ -163,21 +163,21 @@ row_at ts p k h =
     let n = get_or numbers p 0 in
     let c = Steps.run fresh_call ts in
     let u = turn_of (expiry_of n) (replicate 32 0) in
-    (accepts c u (Expiry n) (due-expiry ts u n (reads-expiry p k) (by-messages ts n ∙ rw (index_is p k) h) (lit≤ tt))).row
+    (accepts c u (Expiry n) (due_expiry ts u n (reads_expiry p k) (by_messages ts n ∙ rw (index_is p k) h) (lit≤ tt))).row
 
-pub has-row : (c : Call) → Reach c → (p : ℕ) → p < 7 → runs c p ≡ true → (row_for c (Expiry (get_or numbers p 0))).taken ≡ true
-has-row c r p k h = rw r.is (row_at r.turns p k (rw r.is at h))
+pub has_row : (c : Call) → Reach c → (p : ℕ) → p < 7 → runs c p ≡ true → (row_for c (Expiry (get_or numbers p 0))).taken ≡ true
+has_row c r p k h = rw r.is (row_at r.turns p k (rw r.is at h))
 
 expiry_ours : (c : Call) (n : ℕ) → other_call c (Expiry n) ≡ false
 unfolding other_call
 expiry_ours c n = refl
 
 -- it is taken where 30 bytes are lent
-pub expiry-taken : (c : Call) → Reach c → (p : ℕ) → p < 7 → runs c p ≡ true → (buffer : List ℕ) → 30 ≤ length buffer
+pub expiry_taken : (c : Call) → Reach c → (p : ℕ) → p < 7 → runs c p ≡ true → (buffer : List ℕ) → 30 ≤ length buffer
     → (Steps.outcome c (turn_of (expiry_of (get_or numbers p 0)) buffer)).answer ≡ 0
 unfolding Steps.outcome step_of decided carried bytes_of messages_in
-expiry-taken c r p k h buffer room =
+expiry_taken c r p k h buffer room =
     let n = get_or numbers p 0 in
-    let row = has-row c r p k h in
-    let fits : leb (length (bytes_of (messages_in (row_for c (Expiry n))))) (length buffer) ≡ true = le-leb (length (bytes_of (messages_in (row_for c (Expiry n))))) (length buffer) (omega (arith, expiry-short c n r row)) in
-    rw ((kept c r).meets, reads-expiry p k, expiry_ours c n, row, fits)
+    let row = has_row c r p k h in
+    let fits : leb (length (bytes_of (messages_in (row_for c (Expiry n))))) (length buffer) ≡ true = le-leb (length (bytes_of (messages_in (row_for c (Expiry n))))) (length buffer) (omega (arith, expiry_short c n r row)) in
+    rw ((kept c r).meets, reads_expiry p k, expiry_ours c n, row, fits)

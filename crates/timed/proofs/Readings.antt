@@ -61,15 +61,15 @@ module _ (b : Bank) (reading : ℕ) (seven : List ℕ) (room : length seven ≡ 
       (λ q. q)
 
 -- the first of the list is the first handed out, 0 where none is
-first-listed : (n bound : ℕ) (keys seven : List ℕ) → get_or seven 0 0 ≡ 0 → get_or (handed n bound keys ++ drop n seven) 0 0 ≡ get_or (handed n bound keys) 0 0
+first_listed : (n bound : ℕ) (keys seven : List ℕ) → get_or seven 0 0 ≡ 0 → get_or (handed n bound keys ++ drop n seven) 0 0 ≡ get_or (handed n bound keys) 0 0
 unfolding handed
-first-listed zero bound keys seven h = h
-first-listed (suc n) bound keys seven h = refl
+first_listed zero bound keys seven h = h
+first_listed (suc n) bound keys seven h = refl
 
-first-is : (b : Bank) (reading : ℕ) (seven : List ℕ) → get_or seven 0 0 ≡ 0
+first_is : (b : Bank) (reading : ℕ) (seven : List ℕ) → get_or seven 0 0 ≡ 0
     → get_or (handed_at b reading ++ drop (count_of (keys_at b reading)) seven) 0 0 ≡ get_or (handed_at b reading) 0 0
 unfolding handed_at
-first-is b reading seven h = first-listed (count_of (keys_at b reading)) 34359738368 (keys_at b reading) seven h
+first_is b reading seven h = first_listed (count_of (keys_at b reading)) 34359738368 (keys_at b reading) seven h
 
 -- an accepted reading: how many are due, the first of them, and the bank then
 pub ready_is : (b : Bank) (reading : ℕ) (seven : List ℕ) → length seven ≡ 7 → get_or seven 0 0 ≡ 0 → (r : Advanced) (list : List ℕ) → as_advanced r list ≡ advanced b reading seven
@@ -80,4 +80,4 @@ ready_is b reading seven room first r list is none =
     let whole : as_advanced r list ≡ (record { answer = 0; bank = advanced_to b reading; count = count_of (keys_at b reading); list = handed_at b reading ++ drop (count_of (keys_at b reading)) seven })
     = is ∙ accepts b reading seven room (not_earlier b reading seven room r list is none) in
     ap (λ (o : Outcome). record { answer = 0; count = o.count; first = get_or o.list 0 0; bank = o.bank }) whole
-    ∙ ap (λ (x : ℕ). record { answer = 0; count = count_of (keys_at b reading); first = x; bank = advanced_to b reading }) (first-is b reading seven first)
+    ∙ ap (λ (x : ℕ). record { answer = 0; count = count_of (keys_at b reading); first = x; bank = advanced_to b reading }) (first_is b reading seven first)

@@ -22,7 +22,7 @@ use Rattle.demands.proofs.Facts.{apart}
 use Rattle.demands.proofs.Situations.{clauses}
 use Rattle.demands.proofs.Sound.{always}
 use Rattle.demands.proofs.Timers.{Few, few}
-use Rattle.demands.proofs.Demands.{none_runs_lem, timers-by-messages, timers}
+use Rattle.demands.proofs.Demands.{none_runs_lem, timers_by_messages, timers}
 use Rattle.timed.specs.Set.{new_of}
 use Rattle.timed.specs.Times.{Begun, end, Clocks, is_due}
 use Rattle.timed.specs.Runs.{Turn, step, due, time_of, run, steps_in, Kept, made, then, after, Near, InReach, AllInReach}
@@ -31,9 +31,9 @@ use Rattle.timed.proofs.Ledger.{none≢some}
 use Rattle.timed.proofs.Turns.{Did, refused, waited, lapsed, did}
 use Rattle.timed.proofs.Together.{bank_is_record, follows_step}
 use Rattle.timed.proofs.Reach.{clocked}
-use Rattle.timed.proofs.Holding.{Holds, every-run, holds_after, holds_then}
-use Rattle.timed.proofs.OnTime.{clocks-refused, clocks_waited, some_runs, by-timer, n₀, is-first, row, clock-row, holds, stops_at, row_leaves_311, same_310}
-use Rattle.timed.proofs.Silence.{not_late, call-refused, call_waited}
+use Rattle.timed.proofs.Holding.{Holds, every_run, holds_after, holds_then}
+use Rattle.timed.proofs.OnTime.{clocks_refused, clocks_waited, some_runs, by_timer, n₀, is_first, row, clock_row, holds, stops_at, row_leaves_311, same_310}
+use Rattle.timed.proofs.Silence.{not_late, call_refused, call_waited}
 
 rests : (c : Call) → sound c ≡ true → c.timers ≡ none_runs → demands.AtRest c → Rests c
 rests c ok e (demands.over z) = over z
@@ -46,7 +46,7 @@ rests c ok e (demands.pauses s z) = pauses s z
 
 rests_at : (ts : List Steps.Turn) → (Steps.run fresh_call ts).timers ≡ none_runs → Rests (Steps.run fresh_call ts)
 unfolding running_by note_log
-rests_at ts e = rests (Steps.run fresh_call ts) (always ts).meets e (none_runs_lem ts (timers-by-messages ts ∙ e))
+rests_at ts e = rests (Steps.run fresh_call ts) (always ts).meets e (none_runs_lem ts (timers_by_messages ts ∙ e))
 
 pub at_rest : AtRest
 at_rest reading ds e =
@@ -102,20 +102,20 @@ same_lone x k l e (quiet f) = quiet (λ n. ap (λ (u : Clocks). u n) e ∙ f n)
 
 lone_due : (x : Begun) (k : Kept) (h : Holds k) (table : List ℕ) (time : ℕ) (buffer : List ℕ) (i : InReach k (due table time buffer)) → Did k.timed (due table time buffer) → Lone x k
     → Lone x (then k (due table time buffer))
-lone_due x k h table time buffer i (refused r) z = same_lone x k (then k (due table time buffer)) (clocks-refused k (due table time buffer) r) z
+lone_due x k h table time buffer i (refused r) z = same_lone x k (then k (due table time buffer)) (clocks_refused k (due table time buffer) r) z
 lone_due x k h table time buffer i (waited r) z = same_lone x k (then k (due table time buffer)) (clocks_waited k table time buffer r) z
 lone_due x k h table time buffer i (lapsed r) (quiet f) =
-    absurd (none≢some (sym (f (n₀ k h table time buffer i r)) ∙ (is-first k h table time buffer i r).runs))
+    absurd (none≢some (sym (f (n₀ k h table time buffer i r)) ∙ (is_first k h table time buffer i r).runs))
 lone_due x k h table time buffer i (lapsed r) (talking a f) =
     let n = n₀ k h table time buffer i r in
     decide (eqb n 311)
     (λ e.
     quiet
-    (by-timer (then k (due table time buffer)) (holds k h table time buffer i r) (λ m v. v ≡ none) (λ m. refl)
+    (by_timer (then k (due table time buffer)) (holds k h table time buffer i r) (λ m v. v ≡ none) (λ m. refl)
     (λ q l.
     decide (eqb q 5) (λ y. rw (eqb-true q 5 y) (same_310 k h table time buffer i r e ∙ f 310 (λ z. omega (arith, z))))
-    (λ y. stops_at k h table time buffer i r q l (row_leaves_311 (row k h table time buffer i r) (clock-row k h table time buffer i r) e q l (eqb-false q 5 y))))))
-    (λ e. absurd (none≢some (sym (f n (eqb-false n 311 e)) ∙ (is-first k h table time buffer i r).runs)))
+    (λ y. stops_at k h table time buffer i r q l (row_leaves_311 (row k h table time buffer i r) (clock_row k h table time buffer i r) e q l (eqb-false q 5 y))))))
+    (λ e. absurd (none≢some (sym (f n (eqb-false n 311 e)) ∙ (is_first k h table time buffer i r).runs)))
 
 lone_after : (x : Begun) (k : Kept) → Holds k → (es : List Turn) → AllInReach k es → only_due es ≡ true → Lone x k → Lone x (after k es)
 unfolding after
@@ -131,15 +131,15 @@ lone_over x G now k h s a b (talking z f) = let before = not_late k.last (k.cloc
 pub lone_rests : LoneRests
 lone_rests time ds es G now x all i runs-alone others only settled a b =
     let k = after (made time) ds in
-    let h = every-run time ds all in
+    let h = every_run time ds all in
     lone_over x G now (after k es) (holds_after k h es i) settled a b (lone_after x k h es i only (talking runs-alone others))
 
 -- where none runs due changes no call
 still_due : (k : Kept) (h : Holds k) (table : List ℕ) (time : ℕ) (buffer : List ℕ) (i : InReach k (due table time buffer)) → Did k.timed (due table time buffer) → ((n : ℕ) → k.clocks n ≡ none)
     → ((then k (due table time buffer)).timed.call ≡ k.timed.call) × ((n : ℕ) → (then k (due table time buffer)).clocks n ≡ none)
-still_due k h table time buffer i (refused r) z = (call-refused k (due table time buffer) r, λ n. ap (λ (u : Clocks). u n) (clocks-refused k (due table time buffer) r) ∙ z n)
+still_due k h table time buffer i (refused r) z = (call_refused k (due table time buffer) r, λ n. ap (λ (u : Clocks). u n) (clocks_refused k (due table time buffer) r) ∙ z n)
 still_due k h table time buffer i (waited r) z = (call_waited k table time buffer r, λ n. ap (λ (u : Clocks). u n) (clocks_waited k table time buffer r) ∙ z n)
-still_due k h table time buffer i (lapsed r) z = absurd (none≢some (sym (z (n₀ k h table time buffer i r)) ∙ (is-first k h table time buffer i r).runs))
+still_due k h table time buffer i (lapsed r) z = absurd (none≢some (sym (z (n₀ k h table time buffer i r)) ∙ (is_first k h table time buffer i r).runs))
 
 still_after : (k : Kept) → Holds k → (es : List Turn) → AllInReach k es → only_due es ≡ true → ((n : ℕ) → k.clocks n ≡ none) → (after k es).timed.call ≡ k.timed.call
 unfolding after
@@ -151,11 +151,11 @@ still_after k h (due table time buffer ∷ es) i o z =
     still_after (then k d) (holds_then k h d i.0) es i.1 o now.1 ∙ now.0
 
 pub rests_for_ever : RestsForEver
-rests_for_ever time ds es all i z only = still_after (after (made time) ds) (every-run time ds all) es i only z
+rests_for_ever time ds es all i z only = still_after (after (made time) ds) (every_run time ds all) es i only z
 
-near-at : (last time : ℕ) (v : Option Begun) → is_due last v ≡ false → time < last + 2147483648 → Near time v
-near-at last time none s b = tt
-near-at last time (some x) s b = let before = leb-false (end x) last s in omega (arith, before, b)
+near_at : (last time : ℕ) (v : Option Begun) → is_due last v ≡ false → time < last + 2147483648 → Near time v
+near_at last time none s b = tt
+near_at last time (some x) s b = let before = leb-false (end x) last s in omega (arith, before, b)
 
 pub near_for_nothing : NearForNothing
-near_for_nothing k d s a b = record { not_earlier = a; soon = b; near = λ n. near-at k.last (time_of d) (k.clocks n) (s n) b }
+near_for_nothing k d s a b = record { not_earlier = a; soon = b; near = λ n. near_at k.last (time_of d) (k.clocks n) (s n) b }

@@ -66,10 +66,10 @@ keeps c e buffer =
     (either (Keeps buffer) (leb (length (bytes_of (messages_in (row_for c e)))) (length buffer)) (λ h. absurd (h refl)) (λ h. refl)))
     (λ h. refl))
 
-pub refused-event : (place : ℕ) (t : Timed) (b : Bank) (lengths : List ℕ) (e : Event) (buffer after : List ℕ) (r : CallStepped) → as_call_outcome r after ≡ decided t.call e buffer
+pub refused_event : (place : ℕ) (t : Timed) (b : Bank) (lengths : List ℕ) (e : Event) (buffer after : List ℕ) (r : CallStepped) → as_call_outcome r after ≡ decided t.call e buffer
     → (answer_number r.answer ≡ 0 → ⊥) → refusal_at (answer_number r.answer) r.place t after ≡ of_event place t b lengths e buffer
 unfolding of_event
-refused-event place t b lengths e buffer after r is refused =
+refused_event place t b lengths e buffer after r is refused =
     let number : answer_number r.answer ≡ (decided t.call e buffer).answer = ap (λ (o : CallOutcome). o.answer) is in
     let placed : r.place ≡ (decided t.call e buffer).place = ap (λ (o : CallOutcome). o.place) is in
     let other : (decided t.call e buffer).answer ≡ 0 → ⊥ = λ z. refused (number ∙ z) in
@@ -79,13 +79,13 @@ refused-event place t b lengths e buffer after r is refused =
 -- ---- an event that is taken
 
 -- the event on its record is a turn of the step
-pub is-turn : (c : Call) (e : Event) (bytes buffer : List ℕ) → sound c ≡ true → read events bytes ≡ taken e → outcome c (turn_of bytes buffer) ≡ decided c e buffer
+pub is_turn : (c : Call) (e : Event) (bytes buffer : List ℕ) → sound c ≡ true → read events bytes ≡ taken e → outcome c (turn_of bytes buffer) ≡ decided c e buffer
 unfolding outcome step_of
-is-turn c e bytes buffer s r = rw (s, r)
+is_turn c e bytes buffer s r = rw (s, r)
 
 takes : (c : Call) (e : Event) (bytes buffer : List ℕ) → sound c ≡ true → read events bytes ≡ taken e → (decided c e buffer).answer ≡ 0 → taken_by c (turn_of bytes buffer) ≡ some e
 unfolding taken_by
-takes c e bytes buffer s r zero = rw (is-turn c e bytes buffer s r, eq-eqb _ 0 zero, r)
+takes c e bytes buffer s r zero = rw (is_turn c e bytes buffer s r, eq-eqb _ 0 zero, r)
 
 -- the bytes that it counts are those of the row's messages
 pub wrote : (c : Call) (e : Event) (buffer after : List ℕ) (r : CallStepped) → sound c ≡ true → length c.timers ≡ 7 → Readable e → as_call_outcome r after ≡ decided c e buffer
@@ -96,7 +96,7 @@ wrote c e buffer after r s seven (bytes, reads) is zero =
     let none : (decided c e buffer).answer ≡ 0 = sym (ap (λ (o : CallOutcome). o.answer) is) ∙ zero in
     let h : taken_by c t ≡ some e = takes c e bytes buffer s reads none in
     let a : Accepted c t e = accepts c t e h in
-    let all : as_call_outcome r after ≡ outcome c t = is ∙ sym (is-turn c e bytes buffer s reads) in
+    let all : as_call_outcome r after ≡ outcome c t = is ∙ sym (is_turn c e bytes buffer s reads) in
     let count : r.count ≡ length (bytes_of (messages_in (row_for c e))) = ap (λ (o : CallOutcome). o.count) (all ∙ a.gives) in
     let stored_is : take r.count after ≡ bytes_of (messages_in (row_for c e)) =
     rw (count, ap (λ (o : CallOutcome). o.buffer) (all ∙ a.gives)) (stored (bytes_of (messages_in (row_for c e))) buffer (leb-true _ _ a.room)) in
@@ -109,13 +109,13 @@ fits_in c e buffer after r s (bytes, reads) is zero =
     let t : Turn = turn_of bytes buffer in
     let none : (decided c e buffer).answer ≡ 0 = sym (ap (λ (o : CallOutcome). o.answer) is) ∙ zero in
     let a : Accepted c t e = accepts c t e (takes c e bytes buffer s reads none) in
-    let all : as_call_outcome r after ≡ outcome c t = is ∙ sym (is-turn c e bytes buffer s reads) in
+    let all : as_call_outcome r after ≡ outcome c t = is ∙ sym (is_turn c e bytes buffer s reads) in
     let count : r.count ≡ length (bytes_of (messages_in (row_for c e))) = ap (λ (o : CallOutcome). o.count) (all ∙ a.gives) in
     let size : length after ≡ length buffer = ap (λ (o : CallOutcome). length o.buffer) (all ∙ a.gives) ∙ length-sets buffer 0 (bytes_of (messages_in (row_for c e))) in
     let room : length (bytes_of (messages_in (row_for c e))) ≤ length buffer = leb-true _ _ a.room in
     omega arith
 
-pub taken-event : (place : ℕ) (t : Timed) (b started next : Bank) (lengths : List ℕ) (e : Event) (buffer after : List ℕ) (r : CallStepped) → sound t.call ≡ true
+pub taken_event : (place : ℕ) (t : Timed) (b started next : Bank) (lengths : List ℕ) (e : Event) (buffer after : List ℕ) (r : CallStepped) → sound t.call ≡ true
     → length t.call.timers ≡ 7
     → Readable e
     → as_call_outcome r after ≡ decided t.call e buffer
@@ -124,7 +124,7 @@ pub taken-event : (place : ℕ) (t : Timed) (b started next : Bank) (lengths : L
     → next ≡ with_flags r.call.timers started
     → ◌≡◌ {A = Outcome} (record { answer = 0; place = place; timed = record { call = r.call; bank = next }; count = r.count; buffer = after }) (of_event place t b lengths e buffer)
 unfolding of_event
-taken-event place t b started next lengths e buffer after r s seven readable is zero done flagged =
+taken_event place t b started next lengths e buffer after r s seven readable is zero done flagged =
     let none : (decided t.call e buffer).answer ≡ 0 = sym (ap (λ (o : CallOutcome). o.answer) is) ∙ zero in
     let call : r.call ≡ (decided t.call e buffer).call = ap (λ (o : CallOutcome). o.call) is in
     let count : r.count ≡ (decided t.call e buffer).count = ap (λ (o : CallOutcome). o.count) is in
@@ -138,6 +138,6 @@ pub as_turn : (place : ℕ) (t : Timed) (lengths : List ℕ) (reading : ℕ) (by
     → of_event place t (advanced_to t.bank reading) lengths e buffer ≡ of_turn place t lengths reading (turn_of bytes buffer)
 unfolding of_event of_turn turned next written_by taken_by
 as_turn place t lengths reading bytes buffer e s r =
-    let o : outcome t.call (turn_of bytes buffer) ≡ decided t.call e buffer = is-turn t.call e bytes buffer s r in
+    let o : outcome t.call (turn_of bytes buffer) ≡ decided t.call e buffer = is_turn t.call e bytes buffer s r in
     let n : next t.call (turn_of bytes buffer) ≡ (decided t.call e buffer).call = ap (λ (x : CallOutcome). x.call) o in
     decide (eqb (decided t.call e buffer).answer 0) (λ q. rw (n, o, r, q)) (λ q. rw (n, o, r, q))

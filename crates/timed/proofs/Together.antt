@@ -17,15 +17,15 @@ use Rattle.callcontrol.specs.Writing.{bytes_of}
 use Rattle.demands.specs.Runs as Steps
 use Rattle.demands.proofs.Turns.{run-append}
 use Rattle.demands.proofs.Sound.{always}
-use Rattle.demands.proofs.Told.{told-is-plane}
+use Rattle.demands.proofs.Told.{told_is_plane}
 use Rattle.demands.proofs.Facts.{apart}
-use Rattle.demands.proofs.Demands.{zero-is-taken, taken-gives, never_unsound, place_only_with_four, refuses}
+use Rattle.demands.proofs.Demands.{zero_is_taken, taken_gives, never_unsound, place_only_with_four, refuses}
 use Rattle.timed.specs.declared.set.Timed.{Timed}
 use Rattle.timed.specs.Set.{new_of, same_flags, is_set, held_at, turned}
 use Rattle.timed.specs.Entries.{Outcome, refusal_at, turn_of}
 use Rattle.timed.specs.Runs.{Turn, step, due, lent_to, outcome, is_taken, next, run, steps_by, steps_in, written_by}
 use Rattle.timed.specs.Demands.{BankIsRecord, StaysSet, NeverNoSet, FollowsStep, AllTaken, StepsTaken, WritesStep, StepsAppend, ToldSet}
-use Rattle.timed.proofs.Turns.{Did, refused, waited, stepped, lapsed, did, next-is, lapse_turn}
+use Rattle.timed.proofs.Turns.{Did, refused, waited, stepped, lapsed, did, next_is, lapse_turn}
 
 -- ---- one turn
 
@@ -34,15 +34,15 @@ module _ (t : Timed) where
   abbrev pub Joined : Type 0
   Joined = t.bank.running ≡ t.call.timers
 
-pub joined-next : (t : Timed) (d : Turn) → Joined t → Joined (next t d)
+pub joined_next : (t : Timed) (d : Turn) → Joined t → Joined (next t d)
 unfolding held_at turned
-joined-next t d j = by (did t d)
+joined_next t d j = by (did t d)
   where
     by : {e : Turn} → Did t e → Joined (next t e)
-    by (refused r) = rw (next-is t _ r.gives) j
-    by (waited r) = rw (next-is t _ r.gives) refl
-    by (stepped r) = rw (next-is t _ r.gives) refl
-    by (lapsed r) = rw (next-is t _ r.gives) refl
+    by (refused r) = rw (next_is t _ r.gives) j
+    by (waited r) = rw (next_is t _ r.gives) refl
+    by (stepped r) = rw (next_is t _ r.gives) refl
+    by (lapsed r) = rw (next_is t _ r.gives) refl
 
 -- the record after a turn is the step's after the turns that it makes
 pub call_next : (t : Timed) (d : Turn) → (next t d).call ≡ Steps.run t.call (steps_by t d)
@@ -50,10 +50,10 @@ unfolding held_at turned Steps.run
 call_next t d = by (did t d)
   where
     by : {e : Turn} → Did t e → (next t e).call ≡ Steps.run t.call (steps_by t e)
-    by (refused r) = rw (next-is t _ r.gives, r.steps)
-    by (waited r) = rw (next-is t _ r.gives, r.steps)
-    by (stepped r) = rw (next-is t _ r.gives, r.steps)
-    by (lapsed r) = rw (next-is t _ r.gives, r.steps)
+    by (refused r) = rw (next_is t _ r.gives, r.steps)
+    by (waited r) = rw (next_is t _ r.gives, r.steps)
+    by (stepped r) = rw (next_is t _ r.gives, r.steps)
+    by (lapsed r) = rw (next_is t _ r.gives, r.steps)
 
 pub taken_next : (t : Timed) (d : Turn) → AllTaken t.call (steps_by t d)
 taken_next t d = by (did t d)
@@ -66,24 +66,24 @@ taken_next t d = by (did t d)
 
 -- ---- runs
 
-pub joined-run : (t : Timed) (ds : List Turn) → Joined t → Joined (run t ds)
+pub joined_run : (t : Timed) (ds : List Turn) → Joined t → Joined (run t ds)
 unfolding run
-joined-run t [] j = j
-joined-run t (d ∷ ds) j = joined-run (next t d) ds (joined-next t d j)
+joined_run t [] j = j
+joined_run t (d ∷ ds) j = joined_run (next t d) ds (joined_next t d j)
 
-pub call-run : (t : Timed) (ds : List Turn) → (run t ds).call ≡ Steps.run t.call (steps_in t ds)
+pub call_run : (t : Timed) (ds : List Turn) → (run t ds).call ≡ Steps.run t.call (steps_in t ds)
 unfolding run steps_in Steps.run
-call-run t [] = refl
-call-run t (d ∷ ds) =
-    call-run (next t d) ds ∙ ap (λ (c : Call). Steps.run c (steps_in (next t d) ds)) (call_next t d)
+call_run t [] = refl
+call_run t (d ∷ ds) =
+    call_run (next t d) ds ∙ ap (λ (c : Call). Steps.run c (steps_in (next t d) ds)) (call_next t d)
     ∙ sym (run-append t.call (steps_by t d) (steps_in (next t d) ds))
 
 pub bank_is_record : BankIsRecord
 unfolding new_bank
-bank_is_record reading ds = joined-run (new_of reading) ds refl
+bank_is_record reading ds = joined_run (new_of reading) ds refl
 
 pub follows_step : FollowsStep
-follows_step reading ds = call-run (new_of reading) ds
+follows_step reading ds = call_run (new_of reading) ds
 
 -- ---- so it is a set
 
@@ -95,15 +95,15 @@ same_flags_lem : (f : List Bool) → same_flags f f ≡ true
 unfolding same_flags
 same_flags_lem f = rw (same_bit (get_or f 0 false), same_bit (get_or f 1 false), same_bit (get_or f 2 false), same_bit (get_or f 3 false), same_bit (get_or f 4 false), same_bit (get_or f 5 false), same_bit (get_or f 6 false))
 
-pub is-set : (t : Timed) → Joined t → sound t.call ≡ true → is_set t ≡ true
+pub is_set_lem : (t : Timed) → Joined t → sound t.call ≡ true → is_set t ≡ true
 unfolding is_set
-is-set t j s = rw (j, s) (same_flags_lem t.call.timers)
+is_set_lem t j s = rw (j, s) (same_flags_lem t.call.timers)
 
-pub sound-run : (reading : ℕ) (ds : List Turn) → sound (run (new_of reading) ds).call ≡ true
-sound-run reading ds = rw (follows_step reading ds) (always (steps_in (new_of reading) ds)).meets
+pub sound_run : (reading : ℕ) (ds : List Turn) → sound (run (new_of reading) ds).call ≡ true
+sound_run reading ds = rw (follows_step reading ds) (always (steps_in (new_of reading) ds)).meets
 
-pub stays-set : StaysSet
-stays-set reading ds = is-set (run (new_of reading) ds) (bank_is_record reading ds) (sound-run reading ds)
+pub stays_set : StaysSet
+stays_set reading ds = is_set_lem (run (new_of reading) ds) (bank_is_record reading ds) (sound_run reading ds)
 
 -- ---- steps taken
 
@@ -112,21 +112,21 @@ unfolding Steps.run
 taken-append c [] us p q = q
 taken-append c (t ∷ ts) us p q = (p.0, taken-append (Steps.next c t) ts us p.1 q)
 
-taken-run : (t : Timed) (ds : List Turn) → AllTaken t.call (steps_in t ds)
+taken_run : (t : Timed) (ds : List Turn) → AllTaken t.call (steps_in t ds)
 unfolding steps_in
-taken-run t [] = tt
-taken-run t (d ∷ ds) = taken-append t.call (steps_by t d) _ (taken_next t d) (rw (← (call_next t d)) (taken-run (next t d) ds))
+taken_run t [] = tt
+taken_run t (d ∷ ds) = taken-append t.call (steps_by t d) _ (taken_next t d) (rw (← (call_next t d)) (taken_run (next t d) ds))
 
 pub steps_taken : StepsTaken
-steps_taken reading ds = taken-run (new_of reading) ds
+steps_taken reading ds = taken_run (new_of reading) ds
 
 pub steps_append : StepsAppend
 unfolding steps_in run
 steps_append t [] es = refl
 steps_append t (d ∷ ds) es = rw (steps_append (next t d) ds es) (sym (append_assoc (steps_by t d) (steps_in (next t d) ds) (steps_in (run (next t d) ds) es)))
 
-pub told-set : ToldSet
-told-set reading ds = told-is-plane (steps_in (new_of reading) ds) ∙ ap (λ (c : Call). c.plane) (sym (follows_step reading ds))
+pub told_set : ToldSet
+told_set reading ds = told_is_plane (steps_in (new_of reading) ds) ∙ ap (λ (c : Call). c.plane) (sym (follows_step reading ds))
 
 -- ---- 1 never comes back
 
@@ -135,7 +135,7 @@ never_no_set reading ds d h = by (did (run (new_of reading) ds) d) h
   where
     by : {e : Turn} → Did (run (new_of reading) ds) e → (outcome (run (new_of reading) ds) e).answer ≡ 1 → ⊥
     by (refused r) one =
-        let from = r.one (stays-set reading ds) (rw r.gives at one) in
+        let from = r.one (stays_set reading ds) (rw r.gives at one) in
         never_unsound (steps_in (new_of reading) ds) from.0 (rw (follows_step reading ds) at from.1)
     by (waited r) one = let z : ◌≡◌ {A = ℕ} 0 1 = rw r.gives at one in omega (arith, z)
     by (stepped r) one = let z : ◌≡◌ {A = ℕ} 0 1 = rw r.gives at one in omega (arith, z)
@@ -146,8 +146,8 @@ never_no_set reading ds d h = by (did (run (new_of reading) ds) d) h
 stores : (c : Call) (u : Steps.Turn) → (Steps.outcome c u).answer ≡ 0
     → ((Steps.outcome c u).count ≡ length (bytes_of (Steps.written_by c u))) × ((Steps.outcome c u).buffer ≡ sets u.buffer 0 (bytes_of (Steps.written_by c u)))
 stores c u h =
-    let e = zero-is-taken c u h in
-    let g = taken-gives c u e.0 e.1 in
+    let e = zero_is_taken c u h in
+    let g = taken_gives c u e.0 e.1 in
     (g.2, g.3)
 
 wrote : (t : Timed) (d : Turn) → Did t d
@@ -158,5 +158,5 @@ wrote t _ (waited r) = rw (r.gives, r.steps) (refl, refl)
 wrote t _ (stepped r) = rw (r.gives, r.steps, append-nil) (stores t.call _ r.taken)
 wrote t _ (lapsed r) = rw (r.gives, r.steps, append-nil) (stores t.call _ r.taken)
 
-pub writes-step : WritesStep
-writes-step reading ds d = wrote (run (new_of reading) ds) d (did (run (new_of reading) ds) d)
+pub writes_step : WritesStep
+writes_step reading ds d = wrote (run (new_of reading) ds) d (did (run (new_of reading) ds) d)

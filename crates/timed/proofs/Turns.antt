@@ -19,7 +19,7 @@ use Rattle.timed.specs.Entries.{Outcome, refusal_at, refusal, turn_of, expiry_of
 use Rattle.timed.specs.Runs.{Turn, step, due, lent_to, outcome, is_taken, steps_by, next}
 
 pub record Ready (t : Timed) (table : List ℕ) (reading : ℕ) : Type 0 where
-  pub is-set : is_set t ≡ true
+  pub is_set_lem : is_set t ≡ true
   pub right : table_right table ≡ true
   pub not_earlier : is_back (forward t.bank.last reading) ≡ false
 
@@ -49,13 +49,13 @@ pub record Refused (t : Timed) (d : Turn) (n place : ℕ) : Type 0 where
 
 pub record Waited (t : Timed) (table : List ℕ) (time : ℕ) (buffer : List ℕ) : Type 0 where
   pub ready : Ready t table (shown time)
-  pub none-due : eqb (due_at t (shown time)) 0 ≡ true
+  pub none_due : eqb (due_at t (shown time)) 0 ≡ true
   pub gives : outcome t (due table time buffer) ≡ waiting t (shown time) buffer
   pub steps : steps_by t (due table time buffer) ≡ []
 
 pub record Stepped (t : Timed) (table : List ℕ) (time : ℕ) (event buffer : List ℕ) : Type 0 where
   pub ready : Ready t table (shown time)
-  pub none-due : eqb (due_at t (shown time)) 0 ≡ true
+  pub none_due : eqb (due_at t (shown time)) 0 ≡ true
   pub no_expiry : is_expiry (read events event) ≡ false
   pub taken : (Steps.outcome t.call (turn_of event buffer)).answer ≡ 0
   pub gives : outcome t (step table time event buffer) ≡ making 0 t table (shown time) (turn_of event buffer)
@@ -66,7 +66,7 @@ lapse_turn t time buffer = turn_of (expiry_of (first_due t (shown time))) buffer
 
 pub record Lapsed (t : Timed) (table : List ℕ) (time : ℕ) (buffer : List ℕ) : Type 0 where
   pub ready : Ready t table (shown time)
-  pub some-due : eqb (due_at t (shown time)) 0 ≡ false
+  pub some_due : eqb (due_at t (shown time)) 0 ≡ false
   pub taken : (Steps.outcome t.call (lapse_turn t time buffer)).answer ≡ 0
   pub gives : outcome t (due table time buffer) ≡ making 1 t table (shown time) (lapse_turn t time buffer)
   pub steps : steps_by t (due table time buffer) ≡ lapse_turn t time buffer ∷ []
@@ -104,7 +104,7 @@ module _ (t : Timed) (table : List ℕ) (time : ℕ) (buffer : List ℕ) where
       (λ r.
       decide (is_back (forward t.bank.last (shown time)))
       (λ b. refuses t d 32 0 refl (not_one t 32 refl) (rw e (g ∙ rw (s, r, b))))
-      (λ b. f (record { is-set = s; right = r; not_earlier = b }) (g ∙ rw (s, r, b))))
+      (λ b. f (record { is_set_lem = s; right = r; not_earlier = b }) (g ∙ rw (s, r, b))))
       (λ r. refuses t d 31 0 refl (not_one t 31 refl) (rw e (g ∙ rw (s, r)))))
       (λ s. refuses t d 1 0 refl (no_set t s) (rw e (g ∙ rw s)))
 
@@ -115,11 +115,11 @@ module _ (t : Timed) (table : List ℕ) (time : ℕ) (buffer : List ℕ) where
       (λ y g.
       decide (eqb (due_at t (shown time)) 0)
       (λ z. let is : outcome t (due table time buffer) ≡ waiting t (shown time) buffer = g ∙ rw z in
-      waited (record { ready = y; none-due = z; gives = is; steps = rw is }))
+      waited (record { ready = y; none_due = z; gives = is; steps = rw is }))
       (λ z.
       decide (eqb (Steps.outcome t.call (lapse_turn t time buffer)).answer 0)
       (λ a. let is : outcome t (due table time buffer) ≡ making 1 t table (shown time) (lapse_turn t time buffer) = g ∙ rw (z, a) in
-      lapsed (record { ready = y; some-due = z; taken = eqb-true _ 0 a; gives = is; steps = rw is }))
+      lapsed (record { ready = y; some_due = z; taken = eqb-true _ 0 a; gives = is; steps = rw is }))
       (λ a. refuses t (due table time buffer) (Steps.outcome t.call (lapse_turn t time buffer)).answer (Steps.outcome t.call (lapse_turn t time buffer)).place a (λ s e. (lapse_turn t time buffer, e)) (g ∙ rw (z, a)))))
 
   did_step : (event : List ℕ) → Did t (step table time event buffer)
@@ -134,7 +134,7 @@ module _ (t : Timed) (table : List ℕ) (time : ℕ) (buffer : List ℕ) where
       (λ x.
       decide (eqb (Steps.outcome t.call (turn_of event buffer)).answer 0)
       (λ a. let is : outcome t (step table time event buffer) ≡ making 0 t table (shown time) (turn_of event buffer) = g ∙ rw (z, x, a) in
-      stepped (record { ready = y; none-due = z; no_expiry = x; taken = eqb-true _ 0 a; gives = is; steps = rw is }))
+      stepped (record { ready = y; none_due = z; no_expiry = x; taken = eqb-true _ 0 a; gives = is; steps = rw is }))
       (λ a. refuses t (step table time event buffer) (Steps.outcome t.call (turn_of event buffer)).answer (Steps.outcome t.call (turn_of event buffer)).place a (λ s e. (turn_of event buffer, e)) (g ∙ rw (z, x, a)))))
       (λ z. refuses t (step table time event buffer) 34 0 refl (not_one t 34 refl) (g ∙ rw z)))
 
@@ -143,9 +143,9 @@ did t (step table time event buffer) = did_step t table time buffer event
 did t (due table time buffer) = did_due t table time buffer
 
 -- what a turn gives back
-pub next-is : (t : Timed) (d : Turn) {o : Outcome} → outcome t d ≡ o → next t d ≡ o.timed
+pub next_is : (t : Timed) (d : Turn) {o : Outcome} → outcome t d ≡ o → next t d ≡ o.timed
 unfolding next
-next-is t d e = ap (λ (o : Outcome). o.timed) e
+next_is t d e = ap (λ (o : Outcome). o.timed) e
 
 -- due that answers 0 has waited or made an expiry, by its place; a step that answers 0 was made
 pub due_waited : (t : Timed) (table : List ℕ) (time : ℕ) (buffer : List ℕ) → Did t (due table time buffer) → (outcome t (due table time buffer)).answer ≡ 0
@@ -160,7 +160,7 @@ due_lapsed t table time buffer (refused r) a p = absurd (r.number (rw r.gives at
 due_lapsed t table time buffer (waited r) a p = let z : ◌≡◌ {A = ℕ} 0 1 = rw r.gives at p in absurd (omega (arith, z))
 due_lapsed t table time buffer (lapsed r) a p = r
 
-pub step-stepped : (t : Timed) (table : List ℕ) (time : ℕ) (event buffer : List ℕ) → Did t (step table time event buffer)
+pub step_stepped : (t : Timed) (table : List ℕ) (time : ℕ) (event buffer : List ℕ) → Did t (step table time event buffer)
     → (outcome t (step table time event buffer)).answer ≡ 0 → Stepped t table time event buffer
-step-stepped t table time event buffer (refused r) a = absurd (r.number (rw r.gives at a))
-step-stepped t table time event buffer (stepped r) a = r
+step_stepped t table time event buffer (refused r) a = absurd (r.number (rw r.gives at a))
+step_stepped t table time event buffer (stepped r) a = r

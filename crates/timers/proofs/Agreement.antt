@@ -7,7 +7,7 @@ use Rattle.timers.specs.Bank.{index_of, keys_at}
 use Rattle.timers.specs.Time.{Times, is_due, Kept, occurs}
 use Rattle.timers.specs.Claims.{Runs, Holds, due_of, before?, before_all, in_order}
 use Rattle.timers.proofs.Tests.{by_test, decide, cond_same, All, weaken}
-use Rattle.timers.proofs.Keys.{most, sum, total, Distinct, falling, one_fewer, falling_total, falling_keys, sum-all, below-is, handed-is}
+use Rattle.timers.proofs.Keys.{most, sum, total, Distinct, falling, one_fewer, falling_total, falling_keys, sum_all, below_is, handed_is}
 use Rattle.timers.proofs.Indices.{by_index, by_number_lem, other_timer, rising}
 use Rattle.timers.proofs.Wrapping.{not_back, back, ahead, behind}
 
@@ -129,9 +129,9 @@ weigh_key m time n p h (some d) e =
     rw (q, ne_eqb y 0 (above_zero (time - d) p h), number_is m time y key))
     (λ q. rw (q, cond_same {A = ℕ} (eqb (get_or numbers p 0) n) 0))
 
-occurs-total : (n : ℕ) (ys : List ℕ) → All (λ y. 0 < y) ys → occurs n (map number_of ys) ≡ total (weigh n) ys
-occurs-total n [] a = refl
-occurs-total n (y ∷ ys) a = rw (ne_eqb y 0 (λ e. omega (arith, a.0, e)), occurs-total n ys a.1)
+occurs_total : (n : ℕ) (ys : List ℕ) → All (λ y. 0 < y) ys → occurs n (map number_of ys) ≡ total (weigh n) ys
+occurs_total n [] a = refl
+occurs_total n (y ∷ ys) a = rw (ne_eqb y 0 (λ e. omega (arith, a.0, e)), occurs_total n ys a.1)
 
 key_small : (last time p : ℕ) (r : Bool) (d : ℕ) (u : Option ℕ) → Runs last r d u → time < last + 2147483648 → true_key time p u < 34359738368
 key_small last time p r d none h b = lit< tt
@@ -163,8 +163,8 @@ module _ (m : Times) (time : ℕ) where
     ),
   )
 
-  all-keys : All (λ y. 0 < y → IsKey m time y) (true_keys m time)
-  all-keys = (
+  all_keys : All (λ y. 0 < y → IsKey m time y) (true_keys m time)
+  all_keys = (
     is_key m time 0 (lit< tt) (m.until 301) refl,
     (
       is_key m time 1 (lit< tt) (m.until 302) refl,
@@ -187,9 +187,9 @@ module _ (m : Times) (time : ℕ) where
     ),
   )
 
-  pub count-is : count_of (true_keys m time) ≡ due_of numbers m time
+  pub count_is : count_of (true_keys m time) ≡ due_of numbers m time
   unfolding count_of
-  count-is =
+  count_is =
       omega (arith, one_due time 0 (lit< tt) (m.until 301), one_due time 1 (lit< tt) (m.until 302), one_due time 2 (lit< tt) (m.until 303), one_due time 3 (lit< tt) (m.until 306), one_due time 4 (lit< tt) (m.until 308), one_due time 5 (lit< tt) (m.until 310), one_due time 6 (lit< tt) (m.until 311))
 
   total_one : total one_if (true_keys m time) ≡ due_of numbers m time
@@ -222,14 +222,14 @@ module _ (m : Times) (time : ℕ) where
       let keys = true_keys m time in
       let x = most b keys in
       let f = one_fewer keys distinct b n e in
-      let head = (falling_keys keys distinct (IsKey m time) all-keys (suc n) b e).0.2 in
-      let rest = falling_keys keys distinct (IsKey m time) all-keys n x f.1 in
+      let head = (falling_keys keys distinct (IsKey m time) all_keys (suc n) b e).0.2 in
+      let rest = falling_keys keys distinct (IsKey m time) all_keys n x f.1 in
       rw (comes_before_all m time x (falling n x keys) head rest, falling_order n x f.1)
 
   handed_falling : (n b : ℕ) → handed n b (true_keys m time) ≡ map number_of (falling n b (true_keys m time))
   handed_falling =
       let k : ℕ → ℕ → ℕ = λ p n. true_key time p (m.until n) in
-      handed-is (true_keys m time) (λ b. below-is b (k 0 301) (k 1 302) (k 2 303) (k 3 306) (k 4 308) (k 5 310) (k 6 311))
+      handed_is (true_keys m time) (λ b. below_is b (k 0 301) (k 1 302) (k 2 303) (k 3 306) (k 4 308) (k 5 310) (k 6 311))
 
 -- what is handed out in true time: each timer due once, in its order
 abbrev pub handed_in : Times → ℕ → List ℕ
@@ -263,26 +263,26 @@ module _ (s : Kept) (h : Holds s) (time : ℕ) (b : time < s.times.last + 214748
         ),
       )
 
-  due-sum : sum one_if 34359738368 (true_keys s.times time) ≡ due_of numbers s.times time
-  due-sum = sum-all one_if 34359738368 (true_keys s.times time) small ∙ total_one s.times time
+  due_sum : sum one_if 34359738368 (true_keys s.times time) ≡ due_of numbers s.times time
+  due_sum = sum_all one_if 34359738368 (true_keys s.times time) small ∙ total_one s.times time
 
-  pub each-once : (n : ℕ) → occurs n (handed_in s.times time) ≡ cond (is_due time (s.times.until n)) 1 0
-  each-once n =
+  pub each_once : (n : ℕ) → occurs n (handed_in s.times time) ≡ cond (is_due time (s.times.until n)) 1 0
+  each_once n =
       let m = s.times in
       let keys = true_keys m time in
       let c = due_of numbers m time in
       let taken = falling c 34359738368 keys in
-      let are_keys = falling_keys keys (distinct m time) (IsKey m time) (all-keys m time) c 34359738368 due-sum in
+      let are_keys = falling_keys keys (distinct m time) (IsKey m time) (all_keys m time) c 34359738368 due_sum in
       ap (occurs n) (handed_falling m time c 34359738368)
-      ∙ occurs-total n taken (weaken taken (λ y k. k.0) are_keys)
-      ∙ falling_total keys (distinct m time) (weigh n) refl c 34359738368 due-sum
-      ∙ sum-all (weigh n) 34359738368 keys small
+      ∙ occurs_total n taken (weaken taken (λ y k. k.0) are_keys)
+      ∙ falling_total keys (distinct m time) (weigh n) refl c 34359738368 due_sum
+      ∙ sum_all (weigh n) 34359738368 keys small
       ∙ total_weigh m time h.others n
 
   pub in_order_lem : in_order s.times (handed_in s.times time) ≡ true
   in_order_lem =
       let c = due_of numbers s.times time in
-      ap (in_order s.times) (handed_falling s.times time c 34359738368) ∙ falling_order s.times time c 34359738368 due-sum
+      ap (in_order s.times) (handed_falling s.times time c 34359738368) ∙ falling_order s.times time c 34359738368 due_sum
 
 pub length-handed : (n b : ℕ) (keys : List ℕ) → length (handed n b keys) ≡ n
 unfolding handed

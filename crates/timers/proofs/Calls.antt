@@ -41,17 +41,17 @@ unchanged b (reading time list) =
     by_test (ltb (length list) (count_of (keys_at b (shown time)))) (refusal 33 b list) (accepting b time list)
     (λ o. eqb o.answer 0 ≡ false → o ≡ refusal o.answer b list) (λ r t. refl) (λ r t. absurd (true≢false t)))
 
-pub stop-taken : (b : Bank) (n : ℕ) → is_taken b (stop n) ≡ true → (index_of n < 7) × (outcome b (stop n) ≡ ordered (without b (index_of n)))
+pub stop_taken : (b : Bank) (n : ℕ) → is_taken b (stop n) ≡ true → (index_of n < 7) × (outcome b (stop n) ≡ ordered (without b (index_of n)))
 unfolding is_taken outcome stopped
-stop-taken b n =
+stop_taken b n =
     by_test (ltb (index_of n) 7) (ordered (without b (index_of n))) (refusal 30 b [])
     (λ o. eqb o.answer 0 ≡ true → (index_of n < 7) × (o ≡ ordered (without b (index_of n)))) (λ q t. (ltb-true (index_of n) 7 q, refl))
     (λ q t. absurd (false≢true t))
 
-pub start-taken : (b : Bank) (table : List ℕ) (n code : ℕ) → is_taken b (start table n code) ≡ true
+pub start_taken : (b : Bank) (table : List ℕ) (n code : ℕ) → is_taken b (start table n code) ≡ true
     → (index_of n < 7) × (length_in table n code ≡ 0 → ⊥) × (outcome b (start table n code) ≡ ordered (with b (index_of n) (length_in table n code)))
 unfolding is_taken outcome started
-start-taken b table n code =
+start_taken b table n code =
     let made = ordered (with b (index_of n) (length_in table n code)) in
     by_test (ltb (index_of n) 7) (cond (eqb (length_in table n code) 0) (refusal 31 b []) made) (refusal 30 b [])
     (λ o. eqb o.answer 0 ≡ true → (index_of n < 7) × (length_in table n code ≡ 0 → ⊥) × (o ≡ made))
@@ -61,10 +61,10 @@ start-taken b table n code =
     (λ r t. (ltb-true (index_of n) 7 q, eqb-false (length_in table n code) 0 r, refl)))
     (λ q t. absurd (false≢true t))
 
-pub reading-taken : (b : Bank) (time : ℕ) (list : List ℕ) → is_taken b (reading time list) ≡ true
+pub reading_taken : (b : Bank) (time : ℕ) (list : List ℕ) → is_taken b (reading time list) ≡ true
     → (count_of (keys_at b (shown time)) ≤ length list) × (outcome b (reading time list) ≡ accepting b time list)
 unfolding is_taken outcome advanced
-reading-taken b time list =
+reading_taken b time list =
     let count = count_of (keys_at b (shown time)) in
     by_test (is_back (forward b.last (shown time))) (refusal 32 b list) (cond (ltb (length list) count) (refusal 33 b list) (accepting b time list))
     (λ o. eqb o.answer 0 ≡ true → (count ≤ length list) × (o ≡ accepting b time list)) (λ q t. absurd (false≢true t))
@@ -83,9 +83,9 @@ length_most table n code =
     (λ q. omega arith)
 
 -- a refused call leaves the bank and the timers in true time
-pub refused-keeps : (s : Kept) (c : Call) → is_taken s.bank c ≡ false → next s c ≡ s
+pub refused_keeps : (s : Kept) (c : Call) → is_taken s.bank c ≡ false → next s c ≡ s
 unfolding next
-refused-keeps s c t = rw t (λ i. record { bank = ap (λ (o : Outcome). o.bank) (unchanged s.bank c t) i; times = s.times })
+refused_keeps s c t = rw t (λ i. record { bank = ap (λ (o : Outcome). o.bank) (unchanged s.bank c t) i; times = s.times })
 
 pub taken_makes : (s : Kept) (c : Call) → is_taken s.bank c ≡ true
     → next s c ≡ record { bank = (outcome s.bank c).bank; times = noted s.times c }

@@ -10,48 +10,48 @@ use Rattle.timers.specs.Time.{Call, stop, start, reading, outcome, is_taken, han
 use Rattle.timers.specs.Claims.{Holds, OnTime, EveryReading, Answered, EveryRun, Unchanged, first_from, due_of, in_order}
 use Rattle.timers.proofs.Tests.{decide}
 use Rattle.timers.proofs.Wrapping.{not_back, ahead}
-use Rattle.timers.proofs.Agreement.{keys_are, count-is, handed_in, each-once, in_order_lem, length-handed, true_keys}
+use Rattle.timers.proofs.Agreement.{keys_are, count_is, handed_in, each_once, in_order_lem, length-handed, true_keys}
 use Rattle.timers.proofs.Calls as calls
-use Rattle.timers.proofs.Calls.{accepting, reading-taken, refused-keeps, refused_hands, taken_makes}
-use Rattle.timers.proofs.Holding.{holds-made, holds-next, holds-run}
+use Rattle.timers.proofs.Calls.{accepting, reading_taken, refused_keeps, refused_hands, taken_makes}
+use Rattle.timers.proofs.Holding.{holds_made, holds_next, holds_run}
 
-pub every-run : EveryRun
-every-run time cs r = holds-run (made time) (holds-made time) cs r
+pub every_run : EveryRun
+every_run time cs r = holds_run (made time) (holds_made time) cs r
 
 pub unchanged : Unchanged
 unchanged = calls.unchanged
 
 module _ (s : Kept) (h : Holds s) (time : ℕ) (list : List ℕ) (r : InReach s.times (reading time list)) where
   -- a reading in reach is no earlier than the last
-  forward-is : is_back (forward s.bank.last (shown time)) ≡ false
-  forward-is =
+  forward_is : is_back (forward s.bank.last (shown time)) ≡ false
+  forward_is =
       let last = s.times.last in
       rw (h.last, ahead last time r.0 r.1) (not_back (time - last) (omega arith))
 
-  due-count : count_of (keys_at s.bank (shown time)) ≡ due_of numbers s.times time
-  due-count = rw (keys_are s h time r.0 r.1) (count-is s.times time)
+  due_count : count_of (keys_at s.bank (shown time)) ≡ due_of numbers s.times time
+  due_count = rw (keys_are s h time r.0 r.1) (count_is s.times time)
 
   handed_are : is_taken s.bank (reading time list) ≡ true → handed_by s.bank (reading time list) ≡ handed_in s.times time
   unfolding handed_by handed_at
   handed_are t =
-      rw ((reading-taken s.bank time list t).1, due-count, keys_are s h time r.0 r.1)
+      rw ((reading_taken s.bank time list t).1, due_count, keys_are s h time r.0 r.1)
       (take_at (handed_in s.times time) (drop (due_of numbers s.times time) list) (due_of numbers s.times time)
       (length-handed (due_of numbers s.times time) 34359738368 (true_keys s.times time)))
 
-  answered-is : (outcome s.bank (reading time list)).answer ≡ cond (ltb (length list) (due_of numbers s.times time)) 33 0
+  answered_is : (outcome s.bank (reading time list)).answer ≡ cond (ltb (length list) (due_of numbers s.times time)) 33 0
   unfolding outcome advanced
-  answered-is = rw (forward-is, due-count) (decide (ltb (length list) (due_of numbers s.times time)) (λ q. rw q) (λ q. rw q))
+  answered_is = rw (forward_is, due_count) (decide (ltb (length list) (due_of numbers s.times time)) (λ q. rw q) (λ q. rw q))
 
   pub answered : Answered s time list
   answered =
       record {
-        answer = answered-is;
-        once = λ t n. rw (handed_are t) (each-once s h time r.1 n);
+        answer = answered_is;
+        once = λ t n. rw (handed_are t) (each_once s h time r.1 n);
         order = λ t. rw (handed_are t) (in_order_lem s h time r.1);
       }
 
-pub every-reading : EveryReading
-every-reading time cs t list r k = answered (run (made time) cs) (every-run time cs r) t list k
+pub every_reading : EveryReading
+every_reading time cs t list r k = answered (run (made time) cs) (every_run time cs r) t list k
 
 -- a call that gives no order to a timer, or is refused, and is no reading leaves the timer
 and_false_left : (x y : Bool) → x && y ≡ false → y ≡ true → x ≡ false
@@ -70,7 +70,7 @@ hands_none s n time list t = rw (refused_hands s.bank (reading time list) t)
 left_alone : (s : Kept) (n : ℕ) (c : Call) (u : Option ℕ) → s.times.until n ≡ u → (is_taken s.bank c ≡ true → (noted s.times c).until n ≡ u)
     → (next s c).times.until n ≡ u
 left_alone s n c u e f =
-    decide (is_taken s.bank c) (λ t. rw (taken_makes s c t) (f t)) (λ t. rw (refused-keeps s c t) e)
+    decide (is_taken s.bank c) (λ t. rw (taken_makes s c t) (f t)) (λ t. rw (refused_keeps s c t) e)
 
 stop_other : (s : Kept) (n k : ℕ) → orders_to n (stop k) && is_taken s.bank (stop k) ≡ false → (u : Option ℕ) → s.times.until n ≡ u
     → (next s (stop k)).times.until n ≡ u
@@ -88,13 +88,13 @@ silent : (s : Kept) → Holds s → (n : ℕ) → s.times.until n ≡ none → (
 unfolding handouts noted
 silent s h n e [] r o = refl
 silent s h n e (stop k ∷ cs) r o =
-    silent (next s (stop k)) (holds-next s h (stop k) r.0) n (stop_other s n k o.0 none e) cs r.1 o.1
+    silent (next s (stop k)) (holds_next s h (stop k) r.0) n (stop_other s n k o.0 none e) cs r.1 o.1
 silent s h n e (start table k code ∷ cs) r o =
-    silent (next s (start table k code)) (holds-next s h (start table k code) r.0) n (start_other s n table k code o.0 none e) cs r.1 o.1
+    silent (next s (start table k code)) (holds_next s h (start table k code) r.0) n (start_other s n table k code o.0 none e) cs r.1 o.1
 silent s h n e (reading time list ∷ cs) r o =
     let c = reading time list in
     let rest =
-    silent (next s c) (holds-next s h c r.0) n (left_alone s n c none e (λ t. rw e)) cs r.1 o.1 in
+    silent (next s c) (holds_next s h c r.0) n (left_alone s n c none e (λ t. rw e)) cs r.1 o.1 in
     decide (is_taken s.bank c) (λ t. rw (hands_due s h n time list r.0 t, e) rest) (λ t. rw (hands_none s n time list t) rest)
 
 -- one that runs is handed out at the first accepted reading at or after its deadline
@@ -103,12 +103,12 @@ in_time : (s : Kept) → Holds s → (n d : ℕ) → s.times.until n ≡ some d 
 unfolding handouts accepted noted
 in_time s h n d e [] r o = refl
 in_time s h n d e (stop k ∷ cs) r o =
-    in_time (next s (stop k)) (holds-next s h (stop k) r.0) n d (stop_other s n k o.0 (some d) e) cs r.1 o.1
+    in_time (next s (stop k)) (holds_next s h (stop k) r.0) n d (stop_other s n k o.0 (some d) e) cs r.1 o.1
 in_time s h n d e (start table k code ∷ cs) r o =
-    in_time (next s (start table k code)) (holds-next s h (start table k code) r.0) n d (start_other s n table k code o.0 (some d) e) cs r.1 o.1
+    in_time (next s (start table k code)) (holds_next s h (start table k code) r.0) n d (start_other s n table k code o.0 (some d) e) cs r.1 o.1
 in_time s h n d e (reading time list ∷ cs) r o =
     let c = reading time list in
-    let h' = holds-next s h c r.0 in
+    let h' = holds_next s h c r.0 in
     decide (is_taken s.bank c)
     (λ t.
     rw (hands_due s h n time list r.0 t, e, t)
@@ -120,7 +120,7 @@ in_time s h n d e (reading time list ∷ cs) r o =
     let stays : (next s c).times.until n ≡ some d = rw (taken_makes s c t, e, q) in
     rw q (in_time (next s c) h' n d stays cs r.1 o.1))))
     (λ t.
-    let same : (next s c).times.until n ≡ some d = rw (refused-keeps s c t) e in
+    let same : (next s c).times.until n ≡ some d = rw (refused_keeps s c t) e in
     rw (hands_none s n time list t, t) (in_time (next s c) h' n d same cs r.1 o.1))
 
 pub on_time : OnTime
@@ -128,6 +128,6 @@ unfolding noted
 on_time time before table n code later r t k o =
     let s = run (made time) before in
     let c = start table n code in
-    let h = every-run time before r in
+    let h = every_run time before r in
     let runs : (next s c).times.until n ≡ some (s.times.last + length_in table n code) = rw (taken_makes s c t, eq-eqb n n refl) in
-    in_time (next s c) (holds-next s h c tt) n (s.times.last + length_in table n code) runs later k o
+    in_time (next s c) (holds_next s h c tt) n (s.times.last + length_in table n code) runs later k o

@@ -7,6 +7,6 @@ pub one_more : (n i bound : ℕ) (due keys : List ℕ) → i < length due
 unfolding handed
 one_more n i bound due keys h = rw (add-one i, take-suc-set due i (number_of (below bound keys)), append_assoc)
 
-pub later-stay : (i v : ℕ) (due first : List ℕ) → drop i due ≡ drop i first → drop (i + 1) (set due i v) ≡ drop (i + 1) first
-later-stay i v due first e =
+pub later_stay : (i v : ℕ) (due first : List ℕ) → drop i due ≡ drop i first → drop (i + 1) (set due i v) ≡ drop (i + 1) first
+later_stay i v due first e =
     drop-set-lt (i + 1) due i v (omega arith) ∙ sym (drop-drop 1 i due) ∙ ap (λ (l : List ℕ). drop 1 l) e ∙ drop-drop 1 i first

@@ -10,13 +10,13 @@ use Rattle.timers.specs.Bank.{Outcome, without, with, index_of, length_in, new_b
 use Rattle.timers.specs.Time.{Call, stop, start, reading, outcome, is_taken, Times, is_due, Kept, noted, made, next, run, InReach, AllInReach}
 use Rattle.timers.specs.Claims.{Runs, Holds}
 use Rattle.timers.proofs.Tests.{decide, cond_same}
-use Rattle.timers.proofs.Indices.{by_index, same-timer}
+use Rattle.timers.proofs.Indices.{by_index, same_timer}
 use Rattle.timers.proofs.Agreement.{true_key, true_keys, keys_are, above_zero}
-use Rattle.timers.proofs.Calls.{accepting, stop-taken, start-taken, reading-taken, length_most, refused-keeps, taken_makes}
+use Rattle.timers.proofs.Calls.{accepting, stop_taken, start_taken, reading_taken, length_most, refused_keeps, taken_makes}
 
-pub holds-made : (time : ℕ) → Holds (made time)
+pub holds_made : (time : ℕ) → Holds (made time)
 unfolding made new_bank
-holds-made time =
+holds_made time =
     record {
       last = refl;
       timers =
@@ -28,9 +28,9 @@ holds-made time =
     }
 
 module _ (s : Kept) (h : Holds s) where
-  holds-stop : (n : ℕ) → index_of n < 7 → Holds (record { bank = without s.bank (index_of n); times = noted s.times (stop n) })
+  holds_stop : (n : ℕ) → index_of n < 7 → Holds (record { bank = without s.bank (index_of n); times = noted s.times (stop n) })
   unfolding noted
-  holds-stop n k =
+  holds_stop n k =
       let b = s.bank in
       let m = s.times in
       let p = index_of n in
@@ -38,7 +38,7 @@ module _ (s : Kept) (h : Holds s) where
         last = h.last;
         timers =
             λ q l.
-            rw (same-timer q l n k)
+            rw (same_timer q l n k)
             (decide (eqb q p)
             (λ e. rw (e, eqb-true q p e, get_or-set_same b.running p false false (omega (arith, h.sevens.0, k))))
             (λ e. rw (e, get_or-set_other b.running p q false false (eqb-false q p e)) (h.timers q l)));
@@ -46,10 +46,10 @@ module _ (s : Kept) (h : Holds s) where
         sevens = (rw length-set h.sevens.0, h.sevens.1);
       }
 
-  holds-start : (table : List ℕ) (n code : ℕ) → index_of n < 7 → (length_in table n code ≡ 0 → ⊥)
+  holds_start : (table : List ℕ) (n code : ℕ) → index_of n < 7 → (length_in table n code ≡ 0 → ⊥)
       → Holds (record { bank = with s.bank (index_of n) (length_in table n code); times = noted s.times (start table n code) })
   unfolding noted
-  holds-start table n code k some-length =
+  holds_start table n code k some-length =
       let b = s.bank in
       let m = s.times in
       let p = index_of n in
@@ -60,7 +60,7 @@ module _ (s : Kept) (h : Holds s) where
         last = h.last;
         timers =
             λ q l.
-            rw (same-timer q l n k)
+            rw (same_timer q l n k)
             (decide (eqb q p)
             (λ e.
             rw (
@@ -82,10 +82,10 @@ module _ (s : Kept) (h : Holds s) where
       }
 
 -- one timer at an accepted reading
-stays-runs : (last time p : ℕ) → p < 7 → (r : Bool) (d : ℕ) (u : Option ℕ) → Runs last r d u → last ≤ time
+stays_runs : (last time p : ℕ) → p < 7 → (r : Bool) (d : ℕ) (u : Option ℕ) → Runs last r d u → last ≤ time
     → Runs time (stays r (true_key time p u)) d (cond (is_due time u) none u)
-stays-runs last time p k r d none h a = rw h
-stays-runs last time p k r d (some e) h a =
+stays_runs last time p k r d none h a = rw h
+stays_runs last time p k r d (some e) h a =
     decide (leb e time)
     (λ q. rw (q, ne_eqb ((time - e) * 8 + (7 - p)) 0 (above_zero (time - e) p k)) (and-false r))
     (λ q. let soon : time < e = leb-false e time q in rw (q, h.0) (refl, h.1, soon, omega (arith, h.3)))
@@ -95,12 +95,12 @@ module _ (s : Kept) (h : Holds s) (time : ℕ) (a : s.times.last ≤ time) (b : 
       → Runs time (stays (get_or s.bank.running p false) (true_key time p (s.times.until (get_or numbers p 0)))) (get_or s.bank.deadlines p 0)
       (cond (is_due time (s.times.until (get_or numbers p 0))) none (s.times.until (get_or numbers p 0)))
   one_stays p k =
-      stays-runs s.times.last time p k (get_or s.bank.running p false) (get_or s.bank.deadlines p 0) (s.times.until (get_or numbers p 0))
+      stays_runs s.times.last time p k (get_or s.bank.running p false) (get_or s.bank.deadlines p 0) (s.times.until (get_or numbers p 0))
       (h.timers p k) a
 
-  holds-reading : (list : List ℕ) → Holds (record { bank = advanced_to s.bank (shown time); times = noted s.times (reading time list) })
+  holds_reading : (list : List ℕ) → Holds (record { bank = advanced_to s.bank (shown time); times = noted s.times (reading time list) })
   unfolding noted advanced_to staying
-  holds-reading list =
+  holds_reading list =
       let m = s.times in
       record {
         last = refl;
@@ -121,23 +121,23 @@ module _ (s : Kept) (h : Holds s) (time : ℕ) (a : s.times.last ≤ time) (b : 
         sevens = (refl, h.sevens.1);
       }
 
-taken-holds : (s : Kept) → Holds s → (c : Call) → InReach s.times c → is_taken s.bank c ≡ true
+taken_holds : (s : Kept) → Holds s → (c : Call) → InReach s.times c → is_taken s.bank c ≡ true
     → Holds (record { bank = (outcome s.bank c).bank; times = noted s.times c })
-taken-holds s h (stop n) r t =
-    let made_so = stop-taken s.bank n t in
-    rw made_so.1 (holds-stop s h n made_so.0)
-taken-holds s h (start table n code) r t =
-    let made_so = start-taken s.bank table n code t in
-    rw made_so.2 (holds-start s h table n code made_so.0 made_so.1)
-taken-holds s h (reading time list) r t =
-    let made_so = reading-taken s.bank time list t in
-    rw made_so.1 (holds-reading s h time r.0 r.1 list)
+taken_holds s h (stop n) r t =
+    let made_so = stop_taken s.bank n t in
+    rw made_so.1 (holds_stop s h n made_so.0)
+taken_holds s h (start table n code) r t =
+    let made_so = start_taken s.bank table n code t in
+    rw made_so.2 (holds_start s h table n code made_so.0 made_so.1)
+taken_holds s h (reading time list) r t =
+    let made_so = reading_taken s.bank time list t in
+    rw made_so.1 (holds_reading s h time r.0 r.1 list)
 
-pub holds-next : (s : Kept) → Holds s → (c : Call) → InReach s.times c → Holds (next s c)
-holds-next s h c r =
-    decide (is_taken s.bank c) (λ t. rw (taken_makes s c t) (taken-holds s h c r t)) (λ t. rw (refused-keeps s c t) h)
+pub holds_next : (s : Kept) → Holds s → (c : Call) → InReach s.times c → Holds (next s c)
+holds_next s h c r =
+    decide (is_taken s.bank c) (λ t. rw (taken_makes s c t) (taken_holds s h c r t)) (λ t. rw (refused_keeps s c t) h)
 
-pub holds-run : (s : Kept) → Holds s → (cs : List Call) → AllInReach s cs → Holds (run s cs)
+pub holds_run : (s : Kept) → Holds s → (cs : List Call) → AllInReach s cs → Holds (run s cs)
 unfolding run
-holds-run s h [] r = h
-holds-run s h (c ∷ cs) r = holds-run (next s c) (holds-next s h c r.0) cs r.1
+holds_run s h [] r = h
+holds_run s h (c ∷ cs) r = holds_run (next s c) (holds_next s h c r.0) cs r.1

@@ -35,9 +35,9 @@ by_number_lem P a b c d e f g other n =
     decide (eqb n 311) (λ q. subst P (sym (eqb-true n 311 q)) g) (λ q7. other n (rw (q1, q2, q3, q4, q5, q6, q7)))))))))
 
 -- a timer has the number at an index exactly where that is its index
-pub same-timer : (q : ℕ) → q < 7 → (n : ℕ) → index_of n < 7 → eqb (get_or numbers q 0) n ≡ eqb q (index_of n)
+pub same_timer : (q : ℕ) → q < 7 → (n : ℕ) → index_of n < 7 → eqb (get_or numbers q 0) n ≡ eqb q (index_of n)
 unfolding index_of
-same-timer q h n k = by_index (λ p. (n : ℕ) → index_of n < 7 → eqb (get_or numbers p 0) n ≡ eqb p (index_of n)) (row 0 refl refl refl refl refl refl refl) (row 1 refl refl refl refl refl refl refl) (row 2 refl refl refl refl refl refl refl) (row 3 refl refl refl refl refl refl refl) (row 4 refl refl refl refl refl refl refl) (row 5 refl refl refl refl refl refl refl) (row 6 refl refl refl refl refl refl refl) q h n k
+same_timer q h n k = by_index (λ p. (n : ℕ) → index_of n < 7 → eqb (get_or numbers p 0) n ≡ eqb p (index_of n)) (row 0 refl refl refl refl refl refl refl) (row 1 refl refl refl refl refl refl refl) (row 2 refl refl refl refl refl refl refl) (row 3 refl refl refl refl refl refl refl) (row 4 refl refl refl refl refl refl refl) (row 5 refl refl refl refl refl refl refl) (row 6 refl refl refl refl refl refl refl) q h n k
   where
     row : (p : ℕ) → eqb (get_or numbers p 0) 301 ≡ eqb p 0 → eqb (get_or numbers p 0) 302 ≡ eqb p 1 → eqb (get_or numbers p 0) 303 ≡ eqb p 2
         → eqb (get_or numbers p 0) 306 ≡ eqb p 3 → eqb (get_or numbers p 0) 308 ≡ eqb p 4 → eqb (get_or numbers p 0) 310 ≡ eqb p 5

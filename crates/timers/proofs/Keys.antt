@@ -23,9 +23,9 @@ greatest_cases b m x P f g h =
 
 -- ---- the greatest, by pairs or one after the other
 
-pub greater-is : (a b : ℕ) → greater a b ≡ max a b
+pub greater_is : (a b : ℕ) → greater a b ≡ max a b
 unfolding greater
-greater-is a b =
+greater_is a b =
     decide (ltb a b) (λ q. let less = ltb-true a b q in rw q (omega arith)) (λ q. let least = ltb-false a b q in rw q (omega arith))
 
 by_threes : (a b c : ℕ) → max (max a b) c ≡ max a (max b c)
@@ -86,9 +86,9 @@ sum_same w (x ∷ xs) b c h k =
     let l = both_low b (most b xs) x c h in
     rw (head_same (w x) x b c l.1 k, sum_same w xs b c l.0 k)
 
-pub sum-none : (w : ℕ → ℕ) (xs : List ℕ) → sum w 0 xs ≡ 0
-sum-none w [] = refl
-sum-none w (x ∷ xs) = rw (le-ltb x 0 zero-le, sum-none w xs)
+pub sum_none : (w : ℕ → ℕ) (xs : List ℕ) → sum w 0 xs ≡ 0
+sum_none w [] = refl
+sum_none w (x ∷ xs) = rw (le-ltb x 0 zero-le, sum_none w xs)
 
 -- the greatest key below a bound, and those below it
 split : (w : ℕ → ℕ) → w 0 ≡ 0 → (b : ℕ) (xs : List ℕ) → Distinct xs → sum w b xs ≡ w (most b xs) + sum w (most b xs) xs
@@ -130,7 +130,7 @@ module _ (xs : List ℕ) (d : Distinct xs) where
   one_fewer b n e =
       let s = split one_if refl b xs d in
       let is_key : most b xs ≡ 0 → ⊥ =
-      λ z. let none : sum one_if b xs ≡ 0 = s ∙ rw (z, sum-none one_if xs) in omega (arith, none, e) in
+      λ z. let none : sum one_if b xs ≡ 0 = s ∙ rw (z, sum_none one_if xs) in omega (arith, none, e) in
       let one = one_one (most b xs) is_key in
       (omega (arith, is_key), omega (arith, s, e, one))
 
@@ -138,7 +138,7 @@ module _ (xs : List ℕ) (d : Distinct xs) where
   pub falling_total : (w : ℕ → ℕ) → w 0 ≡ 0 → (n b : ℕ) → sum one_if b xs ≡ n → total w (falling n b xs) ≡ sum w b xs
   falling_total w z zero b e =
       let s = split w z b xs d in
-      sym (s ∙ rw (none_left b e, z, sum-none w xs))
+      sym (s ∙ rw (none_left b e, z, sum_none w xs))
   falling_total w z (suc n) b e =
       let s = split w z b xs d in
       let f = one_fewer b n e in
@@ -156,18 +156,18 @@ module _ (xs : List ℕ) (d : Distinct xs) where
       )
 
 -- all keys are below a bound that is above each
-pub sum-all : (w : ℕ → ℕ) (b : ℕ) (xs : List ℕ) → All (λ y. y < b) xs → sum w b xs ≡ total w xs
-sum-all w b [] a = refl
-sum-all w b (x ∷ xs) a = rw (lt-ltb x b a.0, sum-all w b xs a.1)
+pub sum_all : (w : ℕ → ℕ) (b : ℕ) (xs : List ℕ) → All (λ y. y < b) xs → sum w b xs ≡ total w xs
+sum_all w b [] a = refl
+sum_all w b (x ∷ xs) a = rw (lt-ltb x b a.0, sum_all w b xs a.1)
 
 -- of seven keys the greatest by pairs is the greatest one after the other
-pub below-is : (b k0 k1 k2 k3 k4 k5 k6 : ℕ)
+pub below_is : (b k0 k1 k2 k3 k4 k5 k6 : ℕ)
     → below b (k0 ∷ k1 ∷ k2 ∷ k3 ∷ k4 ∷ k5 ∷ k6 ∷ []) ≡ most b (k0 ∷ k1 ∷ k2 ∷ k3 ∷ k4 ∷ k5 ∷ k6 ∷ [])
 unfolding below
-below-is b k0 k1 k2 k3 k4 k5 k6 = simp (greater-is, by_threes, with_none)
+below_is b k0 k1 k2 k3 k4 k5 k6 = simp (greater_is, by_threes, with_none)
 
 -- what is handed out are the numbers of those keys
-pub handed-is : (xs : List ℕ) → ((b : ℕ) → below b xs ≡ most b xs) → (n b : ℕ) → handed n b xs ≡ map number_of (falling n b xs)
+pub handed_is : (xs : List ℕ) → ((b : ℕ) → below b xs ≡ most b xs) → (n b : ℕ) → handed n b xs ≡ map number_of (falling n b xs)
 unfolding handed
-handed-is xs e zero b = refl
-handed-is xs e (suc n) b = rw (e b, handed-is xs e n (most b xs))
+handed_is xs e zero b = refl
+handed_is xs e (suc n) b = rw (e b, handed_is xs e n (most b xs))

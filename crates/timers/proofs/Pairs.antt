@@ -2,22 +2,22 @@
 use Rattle.std.proofs.Common.{◌≡◌, ℕ, zero, suc, ◌<◌, ◌≤◌, ltb, List, get_or, sym, refl, ◌∙◌, arith, ltb-false, ltb-true, le-ltb, lt-ltb}
 use Rattle.timers.specs.Due.{under, greater, lesser, paired, Paired, below, handed}
 use Rattle.timers.proofs.Tests.{decide}
-use Rattle.timers.proofs.Keys.{greater-is}
+use Rattle.timers.proofs.Keys.{greater_is}
 
 -- a pair whose greater key is below the bound
 pub high_taken : (b h l : ℕ) → l ≤ h → h < b → h ≡ greater (under b h) (under b l)
 unfolding under
-high_taken b h l k t = rw (lt-ltb h b t, lt-ltb l b (omega arith), greater-is) (omega arith)
+high_taken b h l k t = rw (lt-ltb h b t, lt-ltb l b (omega arith), greater_is) (omega arith)
 
 -- and one whose greater key is not
-none-under : (b h : ℕ) → b ≤ h → under b h ≡ 0
+none_under : (b h : ℕ) → b ≤ h → under b h ≡ 0
 unfolding under
-none-under b h t = rw (le-ltb h b t)
+none_under b h t = rw (le-ltb h b t)
 
 pub low_taken : (b h l : ℕ) {r : ℕ} → b ≤ h → r ≡ under b l → r ≡ greater (under b h) (under b l)
 low_taken b h l {r} t e =
-    let least : greater 0 (under b l) ≡ under b l = rw (greater-is 0 (under b l)) (omega arith) in
-    e ∙ sym (rw (none-under b h t) least)
+    let least : greater 0 (under b l) ≡ under b l = rw (greater_is 0 (under b l)) (omega arith) in
+    e ∙ sym (rw (none_under b h t) least)
 
 -- whichever of the two is the greater
 by_size : (x y : ℕ) (P : ℕ → ℕ → Type 0) → (x < y → P y x) → (y ≤ x → P x y) → P (greater x y) (lesser x y)
@@ -33,7 +33,7 @@ paired_is keys =
     (low_high (get_or keys 0 0) (get_or keys 1 0), low_high (get_or keys 2 0) (get_or keys 3 0), low_high (get_or keys 4 0) (get_or keys 5 0))
 
 turned : (u v : ℕ) → greater u v ≡ greater v u
-turned u v = rw (greater-is u v, greater-is v u) (omega arith)
+turned u v = rw (greater_is u v, greater_is v u) (omega arith)
 
 pair_same : (b x y : ℕ) → greater (under b (greater x y)) (under b (lesser x y)) ≡ greater (under b x) (under b y)
 pair_same b x y =
@@ -42,12 +42,12 @@ pair_same b x y =
 pub paired_of : (keys : List ℕ) {r : List ℕ} → r ≡ paired keys → Paired r
 paired_of keys e = rw e (paired_is keys)
 
-below-paired : (b : ℕ) (keys : List ℕ) → below b (paired keys) ≡ below b keys
+below_paired : (b : ℕ) (keys : List ℕ) → below b (paired keys) ≡ below b keys
 unfolding below paired
-below-paired b keys =
+below_paired b keys =
     rw (pair_same b (get_or keys 0 0) (get_or keys 1 0), pair_same b (get_or keys 2 0) (get_or keys 3 0), pair_same b (get_or keys 4 0) (get_or keys 5 0))
 
-pub handed-paired : (n b : ℕ) (keys : List ℕ) → handed n b (paired keys) ≡ handed n b keys
+pub handed_paired : (n b : ℕ) (keys : List ℕ) → handed n b (paired keys) ≡ handed n b keys
 unfolding handed
-handed-paired zero b keys = refl
-handed-paired (suc n) b keys = rw (below-paired b keys, handed-paired n (below b keys) keys)
+handed_paired zero b keys = refl
+handed_paired (suc n) b keys = rw (below_paired b keys, handed_paired n (below b keys) keys)

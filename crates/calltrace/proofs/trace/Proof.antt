@@ -11,7 +11,7 @@ use lib.Seq.{length-take-le, take-add}
 use Rattle.calltrace.specs.declared.block.Pause.{Pause}
 use Rattle.calltrace.specs.Block.{PauseIn}
 use Rattle.calltrace.specs.Trace.{Underway, short}
-use Rattle.calltrace.proofs.Traces.{begins, goes_on, writes, reads_on, ends, end-traced, in_hand_due}
+use Rattle.calltrace.proofs.Traces.{begins, goes_on, writes, reads_on, ends, end_traced, in_hand_due}
 use Rattle.calltrace.proofs.trace.Statement.{statement}
 use Rattle.calltrace.proofs.trace.Tie as tie
 
@@ -34,8 +34,8 @@ block_fits : (c : tie.Start invariant_loop decreases_loop) → length c.args.byt
 block_fits c = omega arith
 
 -- the bytes that are held are a part of the block
-held-part : (c : tie.At-loop invariant_loop decreases_loop) → length (take c.loop.held c.loop.bytes) ≡ c.loop.held
-held-part c = length-take-le c.loop.held c.loop.bytes c.loop.invariant.3
+held_part : (c : tie.At-loop invariant_loop decreases_loop) → length (take c.loop.held c.loop.bytes) ≡ c.loop.held
+held_part c = length-take-le c.loop.held c.loop.bytes c.loop.invariant.3
 
 -- what is known once the lines of a block are laid
 module _ (d : tie.After-drain invariant_loop decreases_loop) where
@@ -52,23 +52,23 @@ module _ (d : tie.After-drain invariant_loop decreases_loop) where
   abbrev lines : List ℕ
   lines = d.drain.last.1.1.1.0
 
-  lines-kept : length lines ≡ length l.loop.lines
-  lines-kept = d.drain.kept.1.1.1.0
+  lines_kept : length lines ≡ length l.loop.lines
+  lines_kept = d.drain.kept.1.1.1.0
 
   same_lines : length l.loop.lines ≡ length start.args.lines.now
   same_lines = omega (arith, l.loop.inv.1, l.before.before.before.before.put-header.kept.0)
 
   lines_most : length lines ≤ 65536
-  lines_most = omega (arith, lines-kept, same_lines, start.pre.1.1)
+  lines_most = omega (arith, lines_kept, same_lines, start.pre.1.1)
 
   within : d.drain.result.at ≤ l.loop.held
-  within = omega (arith, d.drain.ensures.0, held-part l)
+  within = omega (arith, d.drain.ensures.0, held_part l)
 
-  rest-long : length rest ≡ l.loop.held - d.drain.result.at
-  rest-long = rw (length-drop d.drain.result.at, held-part l)
+  rest_long : length rest ≡ l.loop.held - d.drain.result.at
+  rest_long = rw (length-drop d.drain.result.at, held_part l)
 
   laid_in : d.drain.result.laid ≤ length lines
-  laid_in = omega (arith, lines-kept, d.drain.ensures.1.0)
+  laid_in = omega (arith, lines_kept, d.drain.ensures.1.0)
 
   pause_is : {q : Pause} → d.drain.result.pause ≡ q → PauseIn rest (length l.loop.lines - d.drain.result.laid) q
   pause_is e =
@@ -83,27 +83,27 @@ module _ (d : tie.After-drain invariant_loop decreases_loop) where
 abbrev full_after : tie.After-enum-told invariant_loop decreases_loop → tie.After-drain invariant_loop decreases_loop
 full_after c = c.before.before.before.before.before
 
-abbrev short-after : tie.After-enum-told2 invariant_loop decreases_loop → tie.After-drain invariant_loop decreases_loop
-short-after c = c.before.before.before.before.before
+abbrev short_after : tie.After-enum-told2 invariant_loop decreases_loop → tie.After-drain invariant_loop decreases_loop
+short_after c = c.before.before.before.before.before
 
-abbrev cut-after : tie.After-enum-told3 invariant_loop decreases_loop → tie.After-drain invariant_loop decreases_loop
-cut-after c = c.before.before.before.before.before
+abbrev cut_after : tie.After-enum-told3 invariant_loop decreases_loop → tie.After-drain invariant_loop decreases_loop
+cut_after c = c.before.before.before.before.before
 
 -- lines that fill their room are some
-laid-some : (c : tie.After-enum-told invariant_loop decreases_loop) → 0 < (full_after c).drain.result.laid
-laid-some c =
+laid_some : (c : tie.After-enum-told invariant_loop decreases_loop) → 0 < (full_after c).drain.result.laid
+laid_some c =
     let d = full_after c in
     let pause = pause_is d c.enum_told.given.1 in
     omega (arith, pause, same_lines d, (start d).pre.1.0)
 
 -- the rest of a cut record is at the front, and what came stands behind it
-abbrev kept-after : tie.After-slice-known7 invariant_loop decreases_loop → tie.After-keep-rest invariant_loop decreases_loop
-kept-after c = c.before.before.before.before.before.before
+abbrev kept_after : tie.After-slice-known7 invariant_loop decreases_loop → tie.After-keep-rest invariant_loop decreases_loop
+kept_after c = c.before.before.before.before.before.before
 
-bytes-kept : (c : tie.After-slice-known7 invariant_loop decreases_loop)
-    → length c.before.before.read_behind.new.0 ≡ length (start (cut-after (kept-after c).before.before)).args.bytes.now
-bytes-kept c =
-    let k = kept-after c in omega (arith, c.before.before.read_behind.auto.0, k.keep-rest.kept.0, (l (cut-after k.before.before)).loop.inv.0)
+bytes_kept : (c : tie.After-slice-known7 invariant_loop decreases_loop)
+    → length c.before.before.read_behind.new.0 ≡ length (start (cut_after (kept_after c).before.before)).args.bytes.now
+bytes_kept c =
+    let k = kept_after c in omega (arith, c.before.before.read_behind.auto.0, k.keep-rest.kept.0, (l (cut_after k.before.before)).loop.inv.0)
 
 pub trace_spec : {M : Type 1} → statement M
 trace_spec =
@@ -118,15 +118,15 @@ trace_spec =
     (refl, omega arith, omega arith, omega arith, omega arith, rw c.fresh.ensures (begins h.ensures.0 (omega arith)), omega arith, omega arith, omega arith))
     (λ c. omega arith)
     (λ c. omega arith)
-    (λ c. sym (held-part c.before.before))
-    (λ c κs. omega (arith, held-part c.before.before.before))
+    (λ c. sym (held_part c.before.before))
+    (λ c κs. omega (arith, held_part c.before.before.before))
     (λ c. search rules)
     (λ c κs. let d = full_after c.before in (laid_in d, in_hand_due (underway d)))
     (λ c. (l (full_after c.before.before.before)).loop.inv.0)
-    (λ c. let d = full_after c.before.before.before in omega (arith, lines-kept d, same_lines d))
+    (λ c. let d = full_after c.before.before.before in omega (arith, lines_kept d, same_lines d))
     (λ c. let d = full_after c.before.before.before in (
-      omega (arith, laid_in d, lines-kept d, same_lines d),
-      ((omega (arith, length-take-le d.drain.result.laid (lines d) (laid_in d), laid-some c.before.before.before), in_hand_due (underway d)), λ e. e),
+      omega (arith, laid_in d, lines_kept d, same_lines d),
+      ((omega (arith, length-take-le d.drain.result.laid (lines d) (laid_in d), laid_some c.before.before.before), in_hand_due (underway d)), λ e. e),
     ))
     (λ c. let d = full_after c.before.before.before in omega (arith, laid_in d, lines_most d, (l d).loop.inv.7))
     (λ c. omega arith)
@@ -134,78 +134,78 @@ trace_spec =
     let d = full_after c.before.before.before in
     let all : c.before.write-lines.result ≡ d.drain.result.laid = omega (arith, c.before.write-lines.ensures) in (
       (l d).loop.inv.0,
-      omega (arith, lines-kept d, (l d).loop.inv.1),
+      omega (arith, lines_kept d, (l d).loop.inv.1),
       within d,
       (l d).loop.inv.3,
       omega arith,
       rw all (writes (length-take-le d.drain.result.laid (lines d) (laid_in d)) (underway d)),
       omega (arith, (l d).loop.inv.6),
       omega (arith, laid_in d, lines_most d, (l d).loop.inv.7),
-      omega (arith, laid-some c.before.before.before, all, (l d).loop.inv.8),
+      omega (arith, laid_some c.before.before.before, all, (l d).loop.inv.8),
     ))
     (λ c. search rules)
     (λ c κs.
-    let d = short-after c.before in
+    let d = short_after c.before in
     let pause = pause_is d c.before.enum-told2.given.1 in
-    omega (arith, lines-kept d, pause.1))
-    (λ c. (l (short-after c.before.before.before.before)).loop.inv.0)
-    (λ c. let d = short-after c.before.before.before.before in omega (arith, lines-kept d, same_lines d, c.before.before.put_last.auto.0))
+    omega (arith, lines_kept d, pause.1))
+    (λ c. (l (short_after c.before.before.before.before)).loop.inv.0)
+    (λ c. let d = short_after c.before.before.before.before in omega (arith, lines_kept d, same_lines d, c.before.before.put_last.auto.0))
     (λ c.
-    let d = short-after c.before.before.before.before in
+    let d = short_after c.before.before.before.before in
     let p = c.before.before.put_last in
     let pause = pause_is d c.before.before.before.before.enum-told2.given.1 in (
-      omega (arith, p.ensures.1, lines-kept d, same_lines d, pause.1),
-      (ends (underway d) (short pause.0) p.ensures.0 (omega (arith, p.ensures.1, lines-kept d, pause.1)), λ e. refl),
+      omega (arith, p.ensures.1, lines_kept d, same_lines d, pause.1),
+      (ends (underway d) (short pause.0) p.ensures.0 (omega (arith, p.ensures.1, lines_kept d, pause.1)), λ e. refl),
     ))
     (λ c. search rules)
-    (λ c κs. let d = cut-after c.before in (omega (arith, within d), (l d).loop.inv.3))
+    (λ c κs. let d = cut_after c.before in (omega (arith, within d), (l d).loop.inv.3))
     (λ c κs.
     let k = c.before.before.before in
-    let d = cut-after k.before.before in
+    let d = cut_after k.before.before in
     let pause = pause_is d k.before.before.enum-told3.given.1 in
-    omega (arith, rest-long d, pause.1, k.keep-rest.ensures.0, k.keep-rest.auto.0, (l d).loop.inv.0, (start d).pre.0.0))
+    omega (arith, rest_long d, pause.1, k.keep-rest.ensures.0, k.keep-rest.auto.0, (l d).loop.inv.0, (start d).pre.0.0))
     (λ c.
     let r = c.before.before.before.read_behind in
-    let d = cut-after (kept-after c.before).before.before in
-    omega (arith, r.ensures.0, r.auto.0, bytes-kept c.before, (start d).pre.0.1, (l d).loop.inv.6))
+    let d = cut_after (kept_after c.before).before.before in
+    omega (arith, r.ensures.0, r.auto.0, bytes_kept c.before, (start d).pre.0.1, (l d).loop.inv.6))
     (λ c κs.
-    let k = kept-after c.before.before.before.before in
-    let d = cut-after k.before.before in
+    let k = kept_after c.before.before.before.before in
+    let d = cut_after k.before.before in
     let pause = pause_is d k.before.before.enum-told3.given.1 in
-    omega (arith, lines-kept d, pause.2))
-    (λ c. bytes-kept c.before.before.before.before.before.before.before)
+    omega (arith, lines_kept d, pause.2))
+    (λ c. bytes_kept c.before.before.before.before.before.before.before)
     (λ c.
-    let d = cut-after (kept-after c.before.before.before.before.before.before.before).before.before in
-    omega (arith, lines-kept d, same_lines d, c.before.before.put-end.auto.0))
+    let d = cut_after (kept_after c.before.before.before.before.before.before.before).before.before in
+    omega (arith, lines_kept d, same_lines d, c.before.before.put-end.auto.0))
     (λ c.
-    let k = kept-after c.before.before.before.before.before.before.before in
-    let d = cut-after k.before.before in
+    let k = kept_after c.before.before.before.before.before.before.before in
+    let d = cut_after k.before.before in
     let p = c.before.before.put-end in
     let pause = pause_is d k.before.before.enum-told3.given.1 in
     let none_came : c.before.before.before.before.before.before.before.before.before.read_behind.result.count ≡ 0 = c.before.before.before.before.if2.true in
-    let left : length (rest d) ≡ k.keep-rest.result = omega (arith, rest-long d, k.keep-rest.ensures.0) in (
-      omega (arith, p.ensures.1, lines-kept d, same_lines d, pause.2),
-      (rw (none_came, add-zero) (ends (underway d) (rw left at (end-traced (rest d) d.drain.result.call pause.0)) p.ensures.0 (omega (arith, p.ensures.1, lines-kept d, pause.2))), λ e. refl),
+    let left : length (rest d) ≡ k.keep-rest.result = omega (arith, rest_long d, k.keep-rest.ensures.0) in (
+      omega (arith, p.ensures.1, lines_kept d, same_lines d, pause.2),
+      (rw (none_came, add-zero) (ends (underway d) (rw left at (end_traced (rest d) d.drain.result.call pause.0)) p.ensures.0 (omega (arith, p.ensures.1, lines_kept d, pause.2))), λ e. refl),
     ))
     (λ c.
     let r = c.before.before.before.before.before.before.read_behind in
-    let s = start (cut-after (kept-after c.before.before.before.before).before.before) in
-    omega (arith, r.ensures.0, r.auto.0, bytes-kept c.before.before.before.before, block_fits s))
+    let s = start (cut_after (kept_after c.before.before.before.before).before.before) in
+    omega (arith, r.ensures.0, r.auto.0, bytes_kept c.before.before.before.before, block_fits s))
     (λ c. omega arith)
     (λ c.
     let r = c.before.before.before.before.before.before.read_behind in
-    let k = kept-after c.before.before.before.before in
-    let d = cut-after k.before.before in
+    let k = kept_after c.before.before.before.before in
+    let d = cut_after k.before.before in
     let came : length (take r.result.count (drop k.keep-rest.result r.new.0)) ≡ r.result.count =
     length-take-le r.result.count (drop k.keep-rest.result r.new.0) (rw length-drop (omega (arith, r.ensures.0, r.auto.0))) in (
-      bytes-kept c.before.before.before.before,
-      omega (arith, lines-kept d, (l d).loop.inv.1),
+      bytes_kept c.before.before.before.before,
+      omega (arith, lines_kept d, (l d).loop.inv.1),
       omega arith,
       omega (arith, r.ensures.0, r.auto.0),
       laid_in d,
       rw (take-add k.keep-rest.result r.result.count r.new.0, r.ensures.1, k.keep-rest.ensures.1)
           (reads_on (take r.result.count (drop k.keep-rest.result r.new.0)) came (underway d)),
-      omega (arith, r.ensures.0, r.auto.0, bytes-kept c.before.before.before.before, (start d).pre.0.1, (l d).loop.inv.6),
+      omega (arith, r.ensures.0, r.auto.0, bytes_kept c.before.before.before.before, (start d).pre.0.1, (l d).loop.inv.6),
       omega (arith, (l d).loop.inv.7),
       omega (arith, (l d).loop.inv.8),
     ))

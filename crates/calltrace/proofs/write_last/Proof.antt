@@ -1,6 +1,6 @@
 -- What is written at the end is due: all lines in hand where they complete the trace, else none.
 use borrow.Author.Rules.{rules}
-use Rattle.calltrace.proofs.Traces.{due-at-end}
+use Rattle.calltrace.proofs.Traces.{due_at_end}
 use Rattle.calltrace.proofs.write_last.Statement.{statement}
 use Rattle.calltrace.proofs.write_last.Tie as tie
 
@@ -12,5 +12,5 @@ write_last_spec =
     (λ c κs.
     let s = c.before.before in
     let last = s.args.last in
-    (search rules, rw c.due-if.ensures.0 (due-at-end last.complete last.unwritten last.read last.written last.laid s.args.lines.now s.requires.1)))
+    (search rules, rw c.due-if.ensures.0 (due_at_end last.complete last.unwritten last.read last.written last.laid s.args.lines.now s.requires.1)))
     (λ c. search rules))

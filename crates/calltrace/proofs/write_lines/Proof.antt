@@ -2,7 +2,7 @@
 use Prim.Native.Nat.{◌-◌, ◌≤◌}
 use native.Mathlib.Omega.{arith}
 use borrow.Author.Rules.{rules}
-use Rattle.calltrace.proofs.Traces.{left-due}
+use Rattle.calltrace.proofs.Traces.{left_due}
 use Rattle.calltrace.proofs.write_lines.Statement.{statement}
 use Rattle.calltrace.proofs.write_lines.Tie as tie
 
@@ -24,7 +24,7 @@ write_lines_spec =
     (λ c. search rules)
     (λ c κs.
     let s = c.before.before.before.before in
-    left-due s.args.complete s.args.read s.args.written s.args.lines.now s.args.laid c.before.before.loop.done c.before.before.loop.invariant s.requires.0 s.requires.1)
+    left_due s.args.complete s.args.read s.args.written s.args.lines.now s.args.laid c.before.before.loop.done c.before.before.loop.invariant s.requires.0 s.requires.1)
     (λ c. omega arith)
     (λ c. omega arith)
     (λ c. omega arith)

@@ -31,11 +31,11 @@ callcontrol_copy_event_spec =
     (λ c κs. search rules)
     (λ c. search rules)
     (λ c κs. search rules)
-    (λ c. rw (c.event-word.ensures, ← c.before.before.read-event.ensures) (refuses c.before.before.read-event.result _ c.before.match.keys2))
+    (λ c. rw (c.event-word.ensures, ← c.before.before.read_event.ensures) (refuses c.before.before.read_event.result _ c.before.match.keys2))
     (λ c κs. search rules)
-    (λ c κs. written_small events event_lawful _ _ c.before.before.write-event.ensures)
+    (λ c κs. written_small events event_lawful _ _ c.before.before.write_event.ensures)
     (λ c. search rules)
     (λ c.
     let w = c.before.before.before in
     let r = w.before.before.before in
-    copies events _ _ (rw r.read.given.1 at r.before.before.read-event.ensures) w.write-event.ensures c.written-word.ensures))
+    copies events _ _ (rw r.read.given.1 at r.before.before.read_event.ensures) w.write-event.ensures c.written-word.ensures))

@@ -34,7 +34,7 @@ callcontrol_step_spec =
     let t = n.before.before.before.before in
     let h = t.before.before in
     let g = h.before.before in
-    packs _ _ _ g.before.is_record_lem.ensures g.if1.false h.held.ensures t.step.ensures n.answer-number.ensures.0
+    packs _ _ _ g.before.is_record_lem.ensures g.if1.false h.held.ensures t.step.ensures n.answer_number_lem.ensures.0
     p.before.before.if2.true p.pack.ensures)
     (λ c. search rules)
     (λ c. search rules)
@@ -43,4 +43,4 @@ callcontrol_step_spec =
     let t = n.before.before.before.before in
     let h = t.before.before in
     let g = h.before.before in
-    leaves _ _ _ g.before.is_record_lem.ensures g.if1.false h.held.ensures t.step.ensures n.answer-number.ensures.0 c.if2.false))
+    leaves _ _ _ g.before.is_record_lem.ensures g.if1.false h.held.ensures t.step.ensures n.answer_number_lem.ensures.0 c.if2.false))

@@ -8,7 +8,7 @@ use types.Run.{OneOf, miss}
 use Rattle.direct.specs.declared.events.EventRead.{EventRead}
 use Rattle.direct.specs.contracts.events.EventRead as event-read
 use Rattle.direct.specs.Events.{events, as_event_read}
-use Rattle.host_direct.proofs.Small.{written_small, event-small}
+use Rattle.host_direct.proofs.Small.{written_small, event_small}
 use Rattle.host_direct.specs.Entries.{read_word, write_read, copied}
 use Rattle.host_direct.proofs.Answers.{copies}
 use Rattle.host_direct.proofs.callcontrol_direct_copy_event.Statement.{statement}
@@ -29,11 +29,11 @@ callcontrol_direct_copy_event_spec =
     (λ c κs. search rules)
     (λ c. search rules)
     (λ c κs. search rules)
-    (λ c. rw (c.event-word.ensures, ← c.before.before.read-event.ensures) (refuses c.before.before.read-event.result _ c.before.match.keys2))
+    (λ c. rw (c.event-word.ensures, ← c.before.before.read_event.ensures) (refuses c.before.before.read_event.result _ c.before.match.keys2))
     (λ c κs. search rules)
-    (λ c κs. written_small events event-small _ _ c.before.before.write-event.ensures)
+    (λ c κs. written_small events event_small _ _ c.before.before.write_event.ensures)
     (λ c. search rules)
     (λ c.
     let w = c.before.before.before in
     let r = w.before.before.before in
-    copies events _ _ (rw r.read.given.1 at r.before.before.read-event.ensures) w.write-event.ensures c.written-word.ensures))
+    copies events _ _ (rw r.read.given.1 at r.before.before.read_event.ensures) w.write-event.ensures c.written-word.ensures))

@@ -48,8 +48,8 @@ callcontrol_step_spec =
     (λ c. search rules)
     (λ c. search rules)
     (λ c. search rules)
-    (λ c. omega (arith, step_small _ _ _ c.before.before.before.before.before.before.before.small-step.ensures))
-    (λ c. omega (arith, step_small _ _ _ c.before.before.before.before.before.before.before.small-step.ensures, c.before.before.answer-number.ensures.1))
+    (λ c. omega (arith, step_small _ _ _ c.before.before.before.before.before.before.before.small_step.ensures))
+    (λ c. omega (arith, step_small _ _ _ c.before.before.before.before.before.before.before.small_step.ensures, c.before.before.answer_number_lem.ensures.1))
     (λ c. search rules)
     (λ c. search rules)
     (λ c.
@@ -57,15 +57,15 @@ callcontrol_step_spec =
     let t = n.before.before.before.before.before in
     let h = t.before.before in
     let g = h.before.before in
-    leaves _ _ _ g.before.is_record_lem.ensures g.if1.false h.held.ensures t.small-step.ensures n.answer-number.ensures.0
-    (λ zero. refused t.small-step.result.answer n.before.match.keys2 (sym n.answer-number.ensures.0 ∙ zero)))
+    leaves _ _ _ g.before.is_record_lem.ensures g.if1.false h.held.ensures t.small_step.ensures n.answer_number_lem.ensures.0
+    (λ zero. refused t.small_step.result.answer n.before.match.keys2 (sym n.answer_number_lem.ensures.0 ∙ zero)))
     (λ c κs.
     let g = c.before.before.before.before.before.before.before.before.before.before in
     record_length _ g.before.is_record_lem.ensures g.if1.false)
     (λ c. search rules)
     (λ c. search rules)
-    (λ c. omega (arith, step_small _ _ _ c.before.before.before.before.before.before.before.before.before.before.before.small-step.ensures))
-    (λ c. omega (arith, step_small _ _ _ c.before.before.before.before.before.before.before.before.before.before.before.small-step.ensures))
+    (λ c. omega (arith, step_small _ _ _ c.before.before.before.before.before.before.before.before.before.before.before.small_step.ensures))
+    (λ c. omega (arith, step_small _ _ _ c.before.before.before.before.before.before.before.before.before.before.before.small_step.ensures))
     (λ c. search rules)
     (λ c. search rules)
     (λ c.
@@ -74,6 +74,6 @@ callcontrol_step_spec =
     let t = e.before.before.before.before.before in
     let h = t.before.before in
     let g = h.before.before in
-    rw (taken t.small-step.result.place t.small-step.result.count)
-    (packs _ _ _ g.before.is_record_lem.ensures g.if1.false h.held.ensures t.small-step.ensures (sym (ap answer_number e.enum_told.given.1)) refl
+    rw (taken t.small_step.result.place t.small_step.result.count)
+    (packs _ _ _ g.before.is_record_lem.ensures g.if1.false h.held.ensures t.small_step.ensures (sym (ap answer_number e.enum_told.given.1)) refl
     p.pack.ensures)))

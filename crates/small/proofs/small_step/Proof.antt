@@ -4,7 +4,7 @@ use borrow.Author.Tests.{not-true, not-false}
 use Rattle.records.specs.Tables.{read}
 use Rattle.records.specs.Events.{events}
 use Rattle.callcontrol.specs.Step.{step_of}
-use Rattle.small.proofs.Deciding.{read-event, read-timer, read-refused}
+use Rattle.small.proofs.Deciding.{read_event, read_timer, read_refused}
 use borrow.Author.Rules.{rules}
 use Rattle.small.proofs.small_step.Statement.{statement}
 use Rattle.small.proofs.small_step.Tie as tie
@@ -16,7 +16,7 @@ returns c = rw (c.refuse.ensures, ← c.before.before.sound.ensures, not-true c.
 decide_requires : tie.Need-decide-requires
 decide_requires c κs =
     let a = c.before.before.before.before.before.before.before.before.before.args in
-    read-timer a.call a.buffer.now (read events a.event.now) _ (rw c.before.before.read.given.1 at c.before.before.before.before.read-flat.ensures)
+    read_timer a.call a.buffer.now (read events a.event.now) _ (rw c.before.before.read.given.1 at c.before.before.before.before.read-flat.ensures)
 
 returns_2 : tie.Need-returns-2
 unfolding step_of
@@ -24,7 +24,7 @@ returns_2 c =
     let a = c.before.before.before.before.before.before.before.before.before.before.before.before.args in
     let s = c.before.before.before.before.before.before.before.before.before.sound in
     rw (← s.ensures, not-false s.result c.before.before.before.before.before.before.before.before.if1.false)
-    (c.before.before.decide.ensures ∙ read-event a.call a.buffer.now (read events a.event.now) _ (rw c.before.before.before.before.before.read.given.1 at c.before.before.before.before.before.before.before.read-flat.ensures))
+    (c.before.before.decide.ensures ∙ read_event a.call a.buffer.now (read events a.event.now) _ (rw c.before.before.before.before.before.read.given.1 at c.before.before.before.before.before.before.before.read-flat.ensures))
 
 returns_3 : tie.Need-returns-3
 unfolding step_of
@@ -32,7 +32,7 @@ returns_3 c =
     let a = c.before.before.before.before.before.before.before.before.before.args in
     let s = c.before.before.before.before.before.before.sound in
     rw (c.refuse2.ensures, ← s.ensures, not-false s.result c.before.before.before.before.before.if1.false)
-    (read-refused a.call a.buffer.now (read events a.event.now) _ _ (rw c.before.before.read2.given.1 at c.before.before.before.before.read-flat.ensures))
+    (read_refused a.call a.buffer.now (read events a.event.now) _ _ (rw c.before.before.read2.given.1 at c.before.before.before.before.read-flat.ensures))
 
 pub small_step_spec : {M : Type 1} → statement M
 small_step_spec =

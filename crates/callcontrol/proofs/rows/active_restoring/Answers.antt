@@ -3,7 +3,7 @@ use mathlib.Core.List.{List, [], ◌∷◌}
 use mathlib.Core.Path.{◌≡◌, refl, ◌∙◌}
 use lib.Dec.{T}
 use Prim.Native.Nat.{ℕ}
-use Rattle.callcontrol.proofs.Settled.{broken-again-is, none_is, restored-is}
+use Rattle.callcontrol.proofs.Settled.{broken_again_is, none_is, restored_is}
 use Rattle.callcontrol.proofs.Tags.{has_tag, one_of}
 use Rattle.callcontrol.specs.Draft.{no_row}
 use Rattle.callcontrol.specs.Rows.{active_restoring}
@@ -49,7 +49,7 @@ returns-in-ReleaseRequest c = rw c.in-ReleaseRequest.is c.releasing.ensures
 
 pub returns-in-DCallRestore : goal.returns-in-DCallRestore
 unfolding active_restoring
-returns-in-DCallRestore c = rw (c.in-DCallRestore.is, c.code_after.ensures, c.asked_after.ensures, c.restarting.ensures.value, c.plane_granted.ensures.value) (restored-is _ _ _ _)
+returns-in-DCallRestore c = rw (c.in-DCallRestore.is, c.code_after.ensures, c.asked_after.ensures, c.restarting.ensures.value, c.plane_granted.ensures.value) (restored_is _ _ _ _)
 
 pub returns-in-DDisconnect : goal.returns-in-DDisconnect
 unfolding active_restoring
@@ -61,7 +61,7 @@ returns-in-DRelease c = rw c.in-DRelease.is c.released.ensures
 
 pub returns-in-Break : goal.returns-in-Break
 unfolding active_restoring
-returns-in-Break c = rw (c.in-Break.is, c.of.ensures) (broken-again-is _)
+returns-in-Break c = rw (c.in-Break.is, c.of.ensures) (broken_again_is _)
 
 pub returns-in-Expiry : goal.returns-in-Expiry
 unfolding active_restoring

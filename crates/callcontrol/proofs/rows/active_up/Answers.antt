@@ -4,7 +4,7 @@ use mathlib.Core.Path.{◌≡◌, refl, ◌∙◌}
 use lib.Dec.{T}
 use borrow.Author.Tests.{eq-eqb, ne_eqb}
 use Prim.Native.Nat.{ℕ}
-use Rattle.callcontrol.proofs.Settled.{granted-is, interrupted_for_is, interrupted_is, none_is, paused_is, tx_ceased_is}
+use Rattle.callcontrol.proofs.Settled.{granted_is, interrupted_for_is, interrupted_is, none_is, paused_is, tx_ceased_is}
 use Rattle.callcontrol.proofs.Tags.{has_tag, one_of}
 use Rattle.callcontrol.specs.Draft.{no_row}
 use Rattle.callcontrol.specs.Rows.{active_up}
@@ -66,7 +66,7 @@ returns-in-DInfo c = rw c.in-DInfo.is c.informed.ensures
 
 pub returns-in-DTxGranted : goal.returns-in-DTxGranted
 unfolding active_up
-returns-in-DTxGranted c = rw (c.in-DTxGranted.is, c.asked_after.ensures, c.plane_granted.ensures.value) (granted-is _ _)
+returns-in-DTxGranted c = rw (c.in-DTxGranted.is, c.asked_after.ensures, c.plane_granted.ensures.value) (granted_is _ _)
 
 pub returns-in-DTxCeased : goal.returns-in-DTxCeased
 unfolding active_up

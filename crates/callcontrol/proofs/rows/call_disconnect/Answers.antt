@@ -4,7 +4,7 @@ use mathlib.Core.Path.{◌≡◌, refl, ◌∙◌}
 use lib.Dec.{T}
 use borrow.Author.Tests.{eq-eqb, ne_eqb}
 use Prim.Native.Nat.{ℕ}
-use Rattle.callcontrol.proofs.Settled.{confirmed-is, confirmed-late-is, disconnected-unsent-is, none_is, released-unsent-is, reported_is}
+use Rattle.callcontrol.proofs.Settled.{confirmed_is, confirmed_late_is, disconnected_unsent_is, none_is, released_unsent_is, reported_is}
 use Rattle.callcontrol.proofs.Tags.{has_tag, one_of}
 use Rattle.callcontrol.specs.Draft.{no_row}
 use Rattle.callcontrol.specs.Rows.{call_disconnect}
@@ -46,11 +46,11 @@ no_row_lem call (Event.Expiry x) t = absurd t
 
 pub returns-then-call-eq0 : goal.returns-then-call-eq0
 unfolding call_disconnect
-returns-then-call-eq0 c = rw (c.in-DDisconnect.is, eq-eqb _ _ c.if-call-eq0.true, c.naming.ensures) (disconnected-unsent-is _ _)
+returns-then-call-eq0 c = rw (c.in-DDisconnect.is, eq-eqb _ _ c.if-call-eq0.true, c.naming.ensures) (disconnected_unsent_is _ _)
 
 pub returns-then-call-eq0-2 : goal.returns-then-call-eq0-2
 unfolding call_disconnect
-returns-then-call-eq0-2 c = rw (c.in-DRelease.is, eq-eqb _ _ c.if-call-eq0-2.true, c.of.ensures) (released-unsent-is _)
+returns-then-call-eq0-2 c = rw (c.in-DRelease.is, eq-eqb _ _ c.if-call-eq0-2.true, c.of.ensures) (released_unsent_is _)
 
 pub returns-then-call-eq0-3 : goal.returns-then-call-eq0-3
 unfolding call_disconnect
@@ -58,11 +58,11 @@ returns-then-call-eq0-3 c = rw (c.in-ReportSent.is, eq-eqb _ _ c.if-call-eq0-3.t
 
 pub returns-then-call-eq0-4 : goal.returns-then-call-eq0-4
 unfolding call_disconnect
-returns-then-call-eq0-4 c = rw (c.in-ReportFailed.is, eq-eqb _ _ c.if-call-eq0-4.true, c.of-then-call-eq0-4.ensures) (confirmed-is _)
+returns-then-call-eq0-4 c = rw (c.in-ReportFailed.is, eq-eqb _ _ c.if-call-eq0-4.true, c.of-then-call-eq0-4.ensures) (confirmed_is _)
 
 pub returns-then-timers : goal.returns-then-timers
 unfolding call_disconnect
-returns-then-timers c = rw (c.in-Expiry.is, eq-eqb _ _ c.if-timer-eq308.true, c.if-timers.true, c.of-then-timers.ensures) (confirmed-late-is _)
+returns-then-timers c = rw (c.in-Expiry.is, eq-eqb _ _ c.if-timer-eq308.true, c.if-timers.true, c.of-then-timers.ensures) (confirmed_late_is _)
 
 pub returns-then-timer-eq308 : goal.returns-then-timer-eq308
 unfolding call_disconnect
@@ -74,7 +74,7 @@ returns-else-call-eq0 c = rw (c.in-DDisconnect.is, ne_eqb _ _ c.if-call-eq0.fals
 
 pub returns-else-call-eq0-2 : goal.returns-else-call-eq0-2
 unfolding call_disconnect
-returns-else-call-eq0-2 c = rw (c.in-DRelease.is, ne_eqb _ _ c.if-call-eq0-2.false, c.of-in-DRelease.ensures) (confirmed-is _)
+returns-else-call-eq0-2 c = rw (c.in-DRelease.is, ne_eqb _ _ c.if-call-eq0-2.false, c.of-in-DRelease.ensures) (confirmed_is _)
 
 pub returns-else-call-eq0-3 : goal.returns-else-call-eq0-3
 unfolding call_disconnect

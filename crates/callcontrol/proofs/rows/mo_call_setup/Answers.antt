@@ -4,7 +4,7 @@ use mathlib.Core.Path.{◌≡◌, refl, ◌∙◌}
 use lib.Dec.{T}
 use borrow.Author.Tests.{eq-eqb, ne_eqb}
 use Prim.Native.Nat.{ℕ}
-use Rattle.callcontrol.proofs.Settled.{alert-is, cancelled_is, connected-is, failed_is, none_is, proceeding_is, reported_is}
+use Rattle.callcontrol.proofs.Settled.{alert_is, cancelled_is, connected_is, failed_is, none_is, proceeding_is, reported_is}
 use Rattle.callcontrol.proofs.Tags.{has_tag, one_of}
 use Rattle.callcontrol.specs.Draft.{no_row}
 use Rattle.callcontrol.specs.Rows.{mo_call_setup}
@@ -66,11 +66,11 @@ returns-in-DCallProceeding c = rw (c.in-DCallProceeding.is, c.naming.ensures) (p
 
 pub returns-in-DAlert : goal.returns-in-DAlert
 unfolding mo_call_setup
-returns-in-DAlert c = rw (c.in-DAlert.is, c.naming-in-DAlert.ensures) (alert-is _ _)
+returns-in-DAlert c = rw (c.in-DAlert.is, c.naming-in-DAlert.ensures) (alert_is _ _)
 
 pub returns-in-DConnect : goal.returns-in-DConnect
 unfolding mo_call_setup
-returns-in-DConnect c = rw (c.in-DConnect.is, c.slots_after.ensures, c.asked_after.ensures, c.plane_or_off.ensures.value) (connected-is _ _ _ _ _ _)
+returns-in-DConnect c = rw (c.in-DConnect.is, c.slots_after.ensures, c.asked_after.ensures, c.plane_or_off.ensures.value) (connected_is _ _ _ _ _ _)
 
 pub returns-in-DDisconnect : goal.returns-in-DDisconnect
 unfolding mo_call_setup

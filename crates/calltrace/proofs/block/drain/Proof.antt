@@ -6,7 +6,7 @@ use native.Mathlib.Omega.{arith}
 use borrow.Author.Rules.{rules}
 use lib.ListN.{length, take, drop, length-drop}
 use lib.Seq.{drop-drop}
-use Rattle.records.proofs.Laws.{stored-none, stored-then}
+use Rattle.records.proofs.Laws.{stored_none, stored_then}
 use Rattle.calltrace.specs.Line.{line_for}
 use Rattle.calltrace.specs.Block.{outcome_of, Traced, none, more}
 use Rattle.calltrace.proofs.block.drain.Statement.{statement}
@@ -24,7 +24,7 @@ drain_spec =
     (tie.spec
     invariant_loop
     decreases_loop
-    (λ c. (refl, omega arith, omega arith, record { text = []; ran = none; stored = stored-none }))
+    (λ c. (refl, omega arith, omega arith, record { text = []; ran = none; stored = stored_none }))
     (λ c. omega arith)
     (λ c κs. omega arith)
     (λ c. search rules)
@@ -50,7 +50,7 @@ drain_spec =
       record {
         text = _;
         ran = rw (turned.0, ← drop-drop size l.loop.at) (more size p.ran whole);
-        stored = stored-then {ys = line_for (outcome_of l.loop.call (take size (drop l.loop.at l.before.before.before.args.s.now)))} p.stored turned.1.0;
+        stored = stored_then {ys = line_for (outcome_of l.loop.call (take size (drop l.loop.at l.before.before.before.args.s.now)))} p.stored turned.1.0;
       },
     ))
     (λ c. search rules)

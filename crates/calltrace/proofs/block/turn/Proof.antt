@@ -32,18 +32,18 @@ within m n a b false e h k = k
 abbrev Counts : List ℕ → Outcome → Type 0
 Counts buffer o = o.count ≤ length buffer
 
-carried-count : (c : Call) (d : Draft) (buffer : List ℕ) → Counts buffer (carried c d buffer)
+carried_count : (c : Call) (d : Draft) (buffer : List ℕ) → Counts buffer (carried c d buffer)
 unfolding carried
-carried-count c d buffer = within (length (bytes_of (messages_in d))) (length buffer) _ _ _ refl refl zero-le
+carried_count c d buffer = within (length (bytes_of (messages_in d))) (length buffer) _ _ _ refl refl zero-le
 
-decided-count : (c : Call) (e : Event) (buffer : List ℕ) → Counts buffer (decided c e buffer)
+decided_count : (c : Call) (e : Event) (buffer : List ℕ) → Counts buffer (decided c e buffer)
 unfolding decided
-decided-count c e buffer =
+decided_count c e buffer =
     either (Counts buffer) (other_call c e) zero-le
-    (either (Counts buffer) (row_for c e).taken (either (Counts buffer) (over_transmission c e) zero-le (carried-count c (row_for c e) buffer)) zero-le)
+    (either (Counts buffer) (row_for c e).taken (either (Counts buffer) (over_transmission c e) zero-le (carried_count c (row_for c e) buffer)) zero-le)
 
 read_count : (r : Read Event) (c : Call) (buffer : List ℕ) → Counts buffer (when_read r c buffer)
-read_count (taken e) c buffer = decided-count c e buffer
+read_count (taken e) c buffer = decided_count c e buffer
 read_count (refused n place) c buffer = zero-le
 
 -- no step counts more bytes than it is lent
@@ -64,7 +64,7 @@ returns c =
     let p = c.before.before in
     let a = p.before.before.before in
     let k = a.before.before.before in
-    (ap (λ (o : Outcome). o.call) k.step.ensures, (rw (← k.step.ensures, ← a.answer-number.ensures.0) p.put-line.ensures.0, omega arith))
+    (ap (λ (o : Outcome). o.call) k.step.ensures, (rw (← k.step.ensures, ← a.answer_number_lem.ensures.0) p.put-line.ensures.0, omega arith))
 
 pub turn_spec : {M : Type 1} → statement M
 turn_spec =

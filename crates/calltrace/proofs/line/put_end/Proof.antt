@@ -2,12 +2,12 @@
 use native.Mathlib.Omega.{arith}
 use borrow.Author.Rules.{rules}
 use borrow.Author.Tests.{eq-eqb, ne_eqb}
-use Rattle.records.proofs.Laws.{stored-none}
+use Rattle.records.proofs.Laws.{stored_none}
 use Rattle.calltrace.proofs.line.put_end.Statement.{statement}
 use Rattle.calltrace.proofs.line.put_end.Tie as tie
 
 returns : tie.Need-returns
-returns c = (rw (eq-eqb _ 0 c.if1.true) stored-none, omega arith)
+returns c = (rw (eq-eqb _ 0 c.if1.true) stored_none, omega arith)
 
 returns_2 : tie.Need-returns-2
 returns_2 c =

@@ -2,7 +2,7 @@
 use native.Mathlib.Omega.{arith}
 use borrow.Author.Rules.{rules}
 use borrow.Author.Tests.{lt-ltb, le-ltb}
-use Rattle.records.proofs.Laws.{stored-then}
+use Rattle.records.proofs.Laws.{stored_then}
 use Rattle.calltrace.specs.Line.{decimal}
 use Rattle.calltrace.proofs.line.put_number.Statement.{statement}
 use Rattle.calltrace.proofs.line.put_number.Tie as tie
@@ -24,7 +24,7 @@ put_number_spec =
     let k = c.before.before in
     let j = k.before.before.before.before in
     let way = j.before.before in
-    (rw (le-ltb _ _ way.before.if1.false, lt-ltb _ _ way.if2.true) (stored-then j.put-digit2.ensures k.put-digit3.ensures), omega arith))
+    (rw (le-ltb _ _ way.before.if1.false, lt-ltb _ _ way.if2.true) (stored_then j.put-digit2.ensures k.put-digit3.ensures), omega arith))
     (λ c κs. search rules)
     (λ c κs. search rules)
     (λ c κs. search rules)
@@ -34,4 +34,4 @@ put_number_spec =
     let j = k.before.before.before.before in
     let i = j.before.before.before.before in
     let way = i.before.before in
-    (rw (le-ltb _ _ way.before.if1.false, le-ltb _ _ way.if2.false) (stored-then i.put-digit4.ensures (stored-then j.put-digit5.ensures k.put-digit6.ensures)), omega arith)))
+    (rw (le-ltb _ _ way.before.if1.false, le-ltb _ _ way.if2.false) (stored_then i.put-digit4.ensures (stored_then j.put-digit5.ensures k.put-digit6.ensures)), omega arith)))

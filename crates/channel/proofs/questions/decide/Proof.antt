@@ -15,7 +15,7 @@ refuse_requires c κs = search rules
 
 returns : tie.Need-returns
 returns c =
-    rw c.refuse.ensures (decide_unsound _ _ _ _ (sym c.before.before.rooms-sound.ensures ∙ not-true _ c.before.if1.true))
+    rw c.refuse.ensures (decide_unsound _ _ _ _ (sym c.before.before.rooms_sound_lem.ensures ∙ not-true _ c.before.if1.true))
 
 decision_of_requires : tie.Need-decision-of-requires
 decision_of_requires c κs = search rules
@@ -31,7 +31,7 @@ refuse_requires_2 c κs = search rules
 
 returns_2 : tie.Need-returns-2
 returns_2 c =
-    rw c.refuse2.ensures (decide_unknown _ _ _ _ (sym c.before.before.before.before.before.rooms-sound.ensures ∙ not-false _ c.before.before.before.before.if1.false) (sym c.before.enum_told.given.1 ∙ c.before.before.before.decision-of.ensures))
+    rw c.refuse2.ensures (decide_unknown _ _ _ _ (sym c.before.before.before.before.before.rooms_sound_lem.ensures ∙ not-false _ c.before.before.before.before.if1.false) (sym c.before.enum_told.given.1 ∙ c.before.before.before.decision-of.ensures))
 
 first_waiting_requires : tie.Need-first-waiting-requires
 first_waiting_requires c κs = search rules
@@ -41,7 +41,7 @@ refuse_requires_3 c κs = search rules
 
 returns_3 : tie.Need-returns-3
 returns_3 c =
-    let four : length c.before.before.before.before.before.before.before.before.before.before.args.rooms ≡ 4 = search rules in rw c.refuse3.ensures (decide_none _ _ _ _ (sym c.before.before.before.before.before.before.before.before.rooms-sound.ensures ∙ not-false _ c.before.before.before.before.before.before.before.if1.false) four _ _ (sym c.before.before.before.before.wait.given.1 ∙ c.before.before.before.before.before.before.decision-of.ensures) _ c.before.before.first-waiting.ensures c.before.if2.true)
+    let four : length c.before.before.before.before.before.before.before.before.before.before.args.rooms ≡ 4 = search rules in rw c.refuse3.ensures (decide_none _ _ _ _ (sym c.before.before.before.before.before.before.before.before.rooms_sound_lem.ensures ∙ not-false _ c.before.before.before.before.before.before.before.if1.false) four _ _ (sym c.before.before.before.before.wait.given.1 ∙ c.before.before.before.before.before.before.decision-of.ensures) _ c.before.before.first_waiting.ensures c.before.if2.true)
 
 mul_next : tie.Need-overflow-mul-next
 mul_next c = search rules
@@ -57,7 +57,7 @@ same_length c = search rules
 
 returns_4 : tie.Need-returns-4
 returns_4 c =
-    let four : length c.before.before.before.before.before.before.before.before.before.before.before.before.before.args.rooms ≡ 4 = search rules in decide_gives _ _ _ _ (sym c.before.before.before.before.before.before.before.before.before.before.before.rooms-sound.ensures ∙ not-false _ c.before.before.before.before.before.before.before.before.before.before.if1.false) four _ _ (sym c.before.before.before.before.before.before.before.wait.given.1 ∙ c.before.before.before.before.before.before.before.before.before.decision-of.ensures) _ c.before.before.before.before.before.first-waiting.ensures _ c.before.before.before.before.if2.false c.before.before.carry.ensures
+    let four : length c.before.before.before.before.before.before.before.before.before.before.before.before.before.args.rooms ≡ 4 = search rules in decide_gives _ _ _ _ (sym c.before.before.before.before.before.before.before.before.before.before.before.rooms_sound_lem.ensures ∙ not-false _ c.before.before.before.before.before.before.before.before.before.before.if1.false) four _ _ (sym c.before.before.before.before.before.before.before.wait.given.1 ∙ c.before.before.before.before.before.before.before.before.before.decision-of.ensures) _ c.before.before.before.before.before.first_waiting.ensures _ c.before.before.before.before.if2.false c.before.before.carry.ensures
 
 pub decide_spec : {M : Type 1} → statement M
 decide_spec =

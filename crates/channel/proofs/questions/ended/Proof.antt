@@ -3,7 +3,7 @@ use mathlib.Core.Path.{◌≡◌, sym, ◌∙◌}
 use lib.ListN.{length}
 use borrow.Author.Tests.{not-true, not-false}
 use Rattle.channel.proofs.Counting.{sound_of}
-use Rattle.channel.proofs.Asking.{same-room, too_long, size-four, end_unsound, end-call, end-rejects, end_done}
+use Rattle.channel.proofs.Asking.{same_room, too_long, size_four, end_unsound, end_call, end_rejects, end_done}
 use borrow.Author.Rules.{rules}
 use Rattle.channel.proofs.questions.ended.Statement.{statement}
 use Rattle.channel.proofs.questions.ended.Tie as tie
@@ -16,14 +16,14 @@ refuse_requires c κs = search rules
 
 returns : tie.Need-returns
 returns c =
-    rw c.refuse.ensures (end_unsound _ _ _ (sym c.before.before.rooms-sound.ensures ∙ not-true _ c.before.if1.true))
+    rw c.refuse.ensures (end_unsound _ _ _ (sym c.before.before.rooms_sound_lem.ensures ∙ not-true _ c.before.if1.true))
 
 refuse_requires_2 : tie.Need-refuse-requires-2
 refuse_requires_2 c κs = search rules
 
 returns_2 : tie.Need-returns-2
 returns_2 c =
-    rw c.refuse2.ensures (end-call _ _ _ (sym c.before.before.before.rooms-sound.ensures ∙ not-false _ c.before.before.if1.false) c.before.if2.true)
+    rw c.refuse2.ensures (end_call _ _ _ (sym c.before.before.before.rooms_sound_lem.ensures ∙ not-false _ c.before.before.if1.false) c.before.if2.true)
 
 array_copy_out_a : tie.Need-array-copy-out-a
 array_copy_out_a c = search rules
@@ -63,7 +63,7 @@ refuse_requires_3 c κs = search rules
 
 returns_3 : tie.Need-returns-3
 returns_3 c =
-    let four = (sound_of c.before.before.before.before.before.before.before.before.before.before.before.before.before.before.args.t1 (sym c.before.before.before.before.before.before.before.before.before.before.before.before.rooms-sound.ensures ∙ not-false _ c.before.before.before.before.before.before.before.before.before.before.before.if1.false)).four in rw c.refuse3.ensures (end-rejects _ _ _ (sym c.before.before.before.before.before.before.before.before.before.before.before.before.rooms-sound.ensures ∙ not-false _ c.before.before.before.before.before.before.before.before.before.before.before.if1.false) _ c.before.before.before.before.before.before.before.before.before.before.if2.false (too_long _ _ _ _ _ (rw (c.before.before.before.before.before.reject-size.ensures.0, c.before.before.before.before.reject-size2.ensures.0, c.before.before.before.reject-size3.ensures.0, c.before.before.reject-size4.ensures.0) (size-four c.before.before.before.before.before.before.before.before.before.before.before.before.before.before.args.t1 four _)) c.before.if3.true))
+    let four = (sound_of c.before.before.before.before.before.before.before.before.before.before.before.before.before.before.args.t1 (sym c.before.before.before.before.before.before.before.before.before.before.before.before.rooms_sound_lem.ensures ∙ not-false _ c.before.before.before.before.before.before.before.before.before.before.before.if1.false)).four in rw c.refuse3.ensures (end_rejects _ _ _ (sym c.before.before.before.before.before.before.before.before.before.before.before.before.rooms_sound_lem.ensures ∙ not-false _ c.before.before.before.before.before.before.before.before.before.before.before.if1.false) _ c.before.before.before.before.before.before.before.before.before.before.if2.false (too_long _ _ _ _ _ (rw (c.before.before.before.before.before.reject-size.ensures.0, c.before.before.before.before.reject-size2.ensures.0, c.before.before.before.reject-size3.ensures.0, c.before.before.reject-size4.ensures.0) (size_four c.before.before.before.before.before.before.before.before.before.before.before.before.before.before.args.t1 four _)) c.before.if3.true))
 
 reject_requires : tie.Need-reject-requires
 reject_requires c κs = search rules
@@ -91,11 +91,11 @@ room_freed_requires_4 c κs = search rules
 
 same_length : tie.Need-same-length
 same_length c =
-    same-room c.before.before.before.before.before.before.reject4.ensures ∙ same-room c.before.before.before.before.before.before.before.before.before.before.reject3.ensures ∙ same-room c.before.before.before.before.before.before.before.before.before.before.before.before.before.before.reject2.ensures ∙ same-room c.before.before.before.before.before.before.before.before.before.before.before.before.before.before.before.before.before.before.reject.ensures
+    same_room c.before.before.before.before.before.before.reject4.ensures ∙ same_room c.before.before.before.before.before.before.before.before.before.before.reject3.ensures ∙ same_room c.before.before.before.before.before.before.before.before.before.before.before.before.before.before.reject2.ensures ∙ same_room c.before.before.before.before.before.before.before.before.before.before.before.before.before.before.before.before.before.before.reject.ensures
 
 returns_4 : tie.Need-returns-4
 returns_4 c =
-    let four = (sound_of c.before.before.before.before.before.before.before.before.before.before.before.before.before.before.before.before.before.before.before.before.before.before.before.before.before.before.before.before.before.before.before.before.before.args.t1 (sym c.before.before.before.before.before.before.before.before.before.before.before.before.before.before.before.before.before.before.before.before.before.before.before.before.before.before.before.before.before.before.before.rooms-sound.ensures ∙ not-false _ c.before.before.before.before.before.before.before.before.before.before.before.before.before.before.before.before.before.before.before.before.before.before.before.before.before.before.before.before.before.before.if1.false)).four in end-rejects _ _ _ (sym c.before.before.before.before.before.before.before.before.before.before.before.before.before.before.before.before.before.before.before.before.before.before.before.before.before.before.before.before.before.before.before.rooms-sound.ensures ∙ not-false _ c.before.before.before.before.before.before.before.before.before.before.before.before.before.before.before.before.before.before.before.before.before.before.before.before.before.before.before.before.before.before.if1.false) _ c.before.before.before.before.before.before.before.before.before.before.before.before.before.before.before.before.before.before.before.before.before.before.before.before.before.before.before.before.before.if2.false (end_done c.before.before.before.before.before.before.before.before.before.before.before.before.before.before.before.before.before.before.before.before.before.before.before.before.before.before.before.before.before.before.before.before.before.args.t1 four _ (rw (c.before.before.before.before.before.before.before.before.before.before.before.before.before.before.before.before.before.before.before.before.before.before.before.before.reject-size.ensures.0, c.before.before.before.before.before.before.before.before.before.before.before.before.before.before.before.before.before.before.before.before.before.before.before.reject-size2.ensures.0, c.before.before.before.before.before.before.before.before.before.before.before.before.before.before.before.before.before.before.before.before.before.before.reject-size3.ensures.0, c.before.before.before.before.before.before.before.before.before.before.before.before.before.before.before.before.before.before.before.before.before.reject-size4.ensures.0) (size-four c.before.before.before.before.before.before.before.before.before.before.before.before.before.before.before.before.before.before.before.before.before.before.before.before.before.before.before.before.before.before.before.before.before.args.t1 four _)) c.before.before.before.before.before.before.before.before.before.before.before.before.before.before.before.before.before.before.before.before.if3.false c.before.before.before.before.before.before.before.before.before.before.before.before.before.before.before.before.before.before.reject.ensures c.before.before.before.before.before.before.before.before.before.before.before.before.before.before.reject2.ensures c.before.before.before.before.before.before.before.before.before.before.reject3.ensures c.before.before.before.before.before.before.reject4.ensures c.before.before.before.room-freed.ensures c.before.before.room-freed2.ensures c.before.room-freed3.ensures c.room-freed4.ensures)
+    let four = (sound_of c.before.before.before.before.before.before.before.before.before.before.before.before.before.before.before.before.before.before.before.before.before.before.before.before.before.before.before.before.before.before.before.before.before.args.t1 (sym c.before.before.before.before.before.before.before.before.before.before.before.before.before.before.before.before.before.before.before.before.before.before.before.before.before.before.before.before.before.before.before.rooms_sound_lem.ensures ∙ not-false _ c.before.before.before.before.before.before.before.before.before.before.before.before.before.before.before.before.before.before.before.before.before.before.before.before.before.before.before.before.before.before.if1.false)).four in end_rejects _ _ _ (sym c.before.before.before.before.before.before.before.before.before.before.before.before.before.before.before.before.before.before.before.before.before.before.before.before.before.before.before.before.before.before.before.rooms_sound_lem.ensures ∙ not-false _ c.before.before.before.before.before.before.before.before.before.before.before.before.before.before.before.before.before.before.before.before.before.before.before.before.before.before.before.before.before.before.if1.false) _ c.before.before.before.before.before.before.before.before.before.before.before.before.before.before.before.before.before.before.before.before.before.before.before.before.before.before.before.before.before.if2.false (end_done c.before.before.before.before.before.before.before.before.before.before.before.before.before.before.before.before.before.before.before.before.before.before.before.before.before.before.before.before.before.before.before.before.before.args.t1 four _ (rw (c.before.before.before.before.before.before.before.before.before.before.before.before.before.before.before.before.before.before.before.before.before.before.before.before.reject-size.ensures.0, c.before.before.before.before.before.before.before.before.before.before.before.before.before.before.before.before.before.before.before.before.before.before.before.reject-size2.ensures.0, c.before.before.before.before.before.before.before.before.before.before.before.before.before.before.before.before.before.before.before.before.before.before.reject-size3.ensures.0, c.before.before.before.before.before.before.before.before.before.before.before.before.before.before.before.before.before.before.before.before.before.reject-size4.ensures.0) (size_four c.before.before.before.before.before.before.before.before.before.before.before.before.before.before.before.before.before.before.before.before.before.before.before.before.before.before.before.before.before.before.before.before.before.args.t1 four _)) c.before.before.before.before.before.before.before.before.before.before.before.before.before.before.before.before.before.before.before.before.if3.false c.before.before.before.before.before.before.before.before.before.before.before.before.before.before.before.before.before.before.reject.ensures c.before.before.before.before.before.before.before.before.before.before.before.before.before.before.reject2.ensures c.before.before.before.before.before.before.before.before.before.before.reject3.ensures c.before.before.before.before.before.before.reject4.ensures c.before.before.before.room_freed.ensures c.before.before.room-freed2.ensures c.before.room-freed3.ensures c.room-freed4.ensures)
 
 pub ended_spec : {M : Type 1} → statement M
 ended_spec =

@@ -2,7 +2,7 @@
 use mathlib.Core.Path.{◌≡◌}
 use lib.ListN.{length}
 use Rattle.channel.specs.Rooms.{has_number}
-use Rattle.channel.proofs.Fours.{some-four}
+use Rattle.channel.proofs.Fours.{some_four}
 use borrow.Author.Rules.{rules}
 use Rattle.channel.proofs.rooms.number_waits.Statement.{statement}
 use Rattle.channel.proofs.rooms.number_waits.Tie as tie
@@ -33,7 +33,7 @@ has_number_requires_4 c κs = search rules
 
 returns : tie.Need-returns
 returns c =
-    let four : length c.before.before.before.before.before.before.before.before.args.t1 ≡ 4 = search rules in rw (c.before.before.before.before.before.before.has-number.ensures, c.before.before.before.before.has-number2.ensures, c.before.before.has-number3.ensures, c.has-number4.ensures) (some-four (has_number _) c.before.before.before.before.before.before.before.before.args.t1 four)
+    let four : length c.before.before.before.before.before.before.before.before.args.t1 ≡ 4 = search rules in rw (c.before.before.before.before.before.before.has-number.ensures, c.before.before.before.before.has-number2.ensures, c.before.before.has-number3.ensures, c.has-number4.ensures) (some_four (has_number _) c.before.before.before.before.before.before.before.before.args.t1 four)
 
 pub number_waits_spec : {M : Type 1} → statement M
 number_waits_spec =

@@ -1,7 +1,7 @@
 -- Room by room, and pair by pair.
 use mathlib.Core.Path.{◌≡◌}
 use lib.ListN.{length}
-use Rattle.channel.proofs.Fours.{sound-four}
+use Rattle.channel.proofs.Fours.{sound_four}
 use borrow.Author.Rules.{rules}
 use Rattle.channel.proofs.rooms.rooms_sound.Statement.{statement}
 use Rattle.channel.proofs.rooms.rooms_sound.Tie as tie
@@ -50,7 +50,7 @@ apart_requires_6 c κs = search rules
 
 returns : tie.Need-returns
 returns c =
-    let four : length c.before.before.before.before.before.before.before.before.before.before.before.before.before.before.args.t1 ≡ 4 = search rules in rw (c.before.before.before.before.before.before.before.before.before.room_fits.ensures, c.before.before.before.before.before.before.before.before.room-fits2.ensures, c.before.before.before.before.before.before.before.room-fits3.ensures, c.before.before.before.before.before.before.room-fits4.ensures, c.before.before.before.before.before.apart.ensures, c.before.before.before.before.apart2.ensures, c.before.before.before.apart3.ensures, c.before.before.apart4.ensures, c.before.apart5.ensures, c.apart6.ensures) (sound-four c.before.before.before.before.before.before.before.before.before.before.before.before.before.before.args.t1 four)
+    let four : length c.before.before.before.before.before.before.before.before.before.before.before.before.before.before.args.t1 ≡ 4 = search rules in rw (c.before.before.before.before.before.before.before.before.before.room_fits.ensures, c.before.before.before.before.before.before.before.before.room-fits2.ensures, c.before.before.before.before.before.before.before.room-fits3.ensures, c.before.before.before.before.before.before.room-fits4.ensures, c.before.before.before.before.before.apart.ensures, c.before.before.before.before.apart2.ensures, c.before.before.before.apart3.ensures, c.before.before.apart4.ensures, c.before.apart5.ensures, c.apart6.ensures) (sound_four c.before.before.before.before.before.before.before.before.before.before.before.before.before.before.args.t1 four)
 
 pub rooms_sound_spec : {M : Type 1} → statement M
 rooms_sound_spec =

@@ -27,7 +27,7 @@ same_length c = search rules
 
 returns : tie.Need-returns
 unfolding at_place
-returns c = rw (← c.before.before.before.place-step.ensures)
+returns c = rw (← c.before.before.before.place_step.ensures)
 
 pub at_place_spec : {M : Type 1} → statement M
 at_place_spec =

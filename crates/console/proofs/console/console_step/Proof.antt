@@ -28,7 +28,7 @@ at_place_requires c κs =
     let d = c.before.before.before.before in
     let t = d.before.before in
     let a = t.before.before.before.before.args in
-    lead_fits a.calls (tested_sound a.calls t.before.table-sound.ensures t.if1.false) a.place a.event.now
+    lead_fits a.calls (tested_sound a.calls t.before.table_sound_lem.ensures t.if1.false) a.place a.event.now
     (led_by a.calls a.place a.event.now d.before.keys_of.ensures d.lead.ensures c.before.before.k.given.1)
 
 enum_known_event : tie.Need-enum-known-event
@@ -39,7 +39,7 @@ everywhere_requires c κs =
     let d = c.before.before.before.before in
     let t = d.before.before in
     let a = t.before.before.before.before.args in
-    lead_fits a.calls (tested_sound a.calls t.before.table-sound.ensures t.if1.false) a.place a.event.now
+    lead_fits a.calls (tested_sound a.calls t.before.table_sound_lem.ensures t.if1.false) a.place a.event.now
     (led_by a.calls a.place a.event.now d.before.keys_of.ensures d.lead.ensures c.before.before.event.given.1)
 
 enum_known_answer : tie.Need-enum-known-answer
@@ -54,8 +54,8 @@ returns_2 c =
     let d = k.before.before in
     let t = d.before.before in
     let a = t.before.before.before.before.args in
-    c.before.before.at-place.ensures
-    ∙ lead_goes a.calls (tested_sound a.calls t.before.table-sound.ensures t.if1.false) a.place a.event.now
+    c.before.before.at_place_lem.ensures
+    ∙ lead_goes a.calls (tested_sound a.calls t.before.table_sound_lem.ensures t.if1.false) a.place a.event.now
     (led_by a.calls a.place a.event.now d.before.keys_of.ensures d.lead.ensures k.k.given.1) _
 
 same_length_2 : tie.Need-same-length-2
@@ -68,7 +68,7 @@ returns_3 c =
     let t = d.before.before in
     let a = t.before.before.before.before.args in
     c.before.before.everywhere.ensures
-    ∙ lead_goes a.calls (tested_sound a.calls t.before.table-sound.ensures t.if1.false) a.place a.event.now
+    ∙ lead_goes a.calls (tested_sound a.calls t.before.table_sound_lem.ensures t.if1.false) a.place a.event.now
     (led_by a.calls a.place a.event.now d.before.keys_of.ensures d.lead.ensures k.event.given.1) _
 
 returns_4 : tie.Need-returns-4
@@ -76,7 +76,7 @@ returns_4 c =
     let d = c.before.before.before in
     let t = d.before.before in
     let a = t.before.before.before.before.args in
-    lead_goes a.calls (tested_sound a.calls t.before.table-sound.ensures t.if1.false) a.place a.event.now
+    lead_goes a.calls (tested_sound a.calls t.before.table_sound_lem.ensures t.if1.false) a.place a.event.now
     (led_by a.calls a.place a.event.now d.before.keys_of.ensures d.lead.ensures c.before.answer.given.1) _
 
 pub console_step_spec : {M : Type 1} → statement M

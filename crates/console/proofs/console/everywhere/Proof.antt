@@ -3,7 +3,7 @@ use mathlib.Core.Path.{◌≡◌}
 use native.Mathlib.Omega.{arith}
 use lib.ListN.{length}
 use Rattle.console.proofs.Rooms.{own_room}
-use Rattle.console.proofs.Everywhere.{own_fits, front-size, front-within, none-takes, no_space, all_take}
+use Rattle.console.proofs.Everywhere.{own_fits, front_size, front_within, none_takes, no_space, all_take}
 use borrow.Author.Rules.{rules}
 use Rattle.console.proofs.console.everywhere.Statement.{statement}
 use Rattle.console.proofs.console.everywhere.Tie as tie
@@ -20,7 +20,7 @@ put_all_requires c κs =
     (z.requires, own_room z.args.calls z.args.event c.before.own_buffer.result z.requires (search rules) c.before.own_buffer.ensures.1)
 
 returns : tie.Need-returns
-returns c = none-takes _ _ _ c.before.before.before.put_all.ensures c.if1.true
+returns c = none_takes _ _ _ c.before.before.before.put_all.ensures c.if1.true
 
 returns_2 : tie.Need-returns-2
 returns_2 c = no_space _ _ _ c.before.before.before.before.put_all.ensures c.before.if1.false c.if2.true
@@ -33,13 +33,13 @@ array_share_prefix_own c =
 slice_aggregate_copy : tie.Need-slice-aggregate-copy
 slice_aggregate_copy c =
     let p = c.before.before.before.before.before in
-    front-size _ _ (own_fits p.before.before.before.before.args.calls p.before.before.before.before.args.event p.put_all.ensures (own_room p.before.before.before.before.args.calls p.before.before.before.before.args.event p.before.before.own_buffer.result p.before.before.before.before.requires (search rules) p.before.before.own_buffer.ensures.1))
+    front_size _ _ (own_fits p.before.before.before.before.args.calls p.before.before.before.before.args.event p.put_all.ensures (own_room p.before.before.before.before.args.calls p.before.before.before.before.args.event p.before.before.own_buffer.result p.before.before.before.before.requires (search rules) p.before.before.own_buffer.ensures.1))
 
 copy_requires : tie.Need-copy-requires
 copy_requires c κs =
     let p = c.before.before.before.before.before.before in
     let fits = own_fits p.before.before.before.before.args.calls p.before.before.before.before.args.event p.put_all.ensures (own_room p.before.before.before.before.args.calls p.before.before.before.before.args.event p.before.before.own_buffer.result p.before.before.before.before.requires (search rules) p.before.before.own_buffer.ensures.1) in
-    front-within _ _ p.before.before.before.before.args.buffer.now fits c.before.before.if2.false
+    front_within _ _ p.before.before.before.before.args.buffer.now fits c.before.before.if2.false
 
 same_length : tie.Need-same-length
 same_length c = search rules

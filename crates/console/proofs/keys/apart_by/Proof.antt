@@ -2,7 +2,7 @@
 use mathlib.Core.Path.{◌≡◌, sym, ◌∙◌, ap}
 use lib.ListN.{length, get_or}
 use Rattle.console.specs.Keys.{apart_by}
-use Rattle.console.proofs.ByKeys.{apart-eight, eight-keys}
+use Rattle.console.proofs.ByKeys.{apart_eight, eight_keys}
 use borrow.Author.Rules.{rules}
 use Rattle.console.proofs.keys.apart_by.Statement.{statement}
 use Rattle.console.proofs.keys.apart_by.Tie as tie
@@ -22,5 +22,5 @@ apart_by_spec =
     (λ c.
     let keys = c.args.t1 in
     let n : length keys ≡ 8 = search rules in
-    apart-eight (get_or keys 0 0) (get_or keys 1 0) (get_or keys 2 0) (get_or keys 3 0) (get_or keys 4 0) (get_or keys 5 0) (get_or keys 6 0) (get_or keys 7 0)
-    ∙ sym (ap apart_by (eight-keys keys n))))
+    apart_eight (get_or keys 0 0) (get_or keys 1 0) (get_or keys 2 0) (get_or keys 3 0) (get_or keys 4 0) (get_or keys 5 0) (get_or keys 6 0) (get_or keys 7 0)
+    ∙ sym (ap apart_by (eight_keys keys n))))

@@ -3,7 +3,7 @@ use Prim.Native.Nat.{◌≤◌, ◌-◌}
 use mathlib.Core.Path.{◌≡◌, refl}
 use native.Mathlib.Omega.{arith}
 use lib.ListN.{length}
-use Rattle.console.proofs.ByKeys.{keys_first, key_next, all-keys}
+use Rattle.console.proofs.ByKeys.{keys_first, key_next, all_keys}
 use borrow.Author.Rules.{rules}
 use Rattle.console.proofs.keys.keys_of.Statement.{statement}
 use Rattle.console.proofs.keys.keys_of.Tie as tie
@@ -44,7 +44,7 @@ loop_again c =
     (key_next _ _ l.loop.invariant.0 c.key_of_lem.ensures, omega arith, l.loop.invariant.2)
 
 returns : tie.Need-returns invariant_loop decreases_loop
-returns c = all-keys c.before.before.args.t1 c.before.loop.k c.before.loop.invariant.0 (omega arith) c.before.loop.invariant.2
+returns c = all_keys c.before.before.args.t1 c.before.loop.k c.before.loop.invariant.0 (omega arith) c.before.loop.invariant.2
 
 pub keys_of_spec : {M : Type 1} → statement M
 keys_of_spec =

@@ -63,7 +63,7 @@ use Rattle.console.specs.declared.console.AllStepped.{AllStepped}
 use Rattle.console.specs.Table.{call_at}
 use Rattle.console.specs.Route.{aim_of}
 use Rattle.console.specs.Console.{part, next_of, OneMore, LaidAll, writes_from}
-use Rattle.console.proofs.Everywhere.{Putting, put_none, put_more, put_all, same-room, as_many, room_more}
+use Rattle.console.proofs.Everywhere.{Putting, put_none, put_more, put_all, same_room, as_many, room_more}
 use Rattle.console.proofs.Eight.{as_held}
 use Rattle.console.proofs.Walking.{to_row, from_row, whiles, tests, goes_on}
 use Rattle.console.proofs.LentAgain.{LentAgain, lends_again_at, comes_back_at}
@@ -71,7 +71,7 @@ use Rattle.console.specs.contracts.console.AllStepped as D
 use Rattle.console.proofs.console.AllStepped.TheLaws as D'
 use Rattle.console.specs.contracts.console.SoFar as R
 use Rattle.console.proofs.console.SoFar.TheLaws as R'
-use Rattle.console.specs.contracts.lent.step_at as step-at
+use Rattle.console.specs.contracts.lent.step_at as step_at
 use Rattle.console.proofs.lent.step_at.Symbol as step-at-def
 use Rattle.console.proofs.lent.step_at.Symbol.{name as #console·lent·step-at}
 use Rattle.console.proofs.lent.step_at.Met as step-at-thm
@@ -85,7 +85,7 @@ stayed = (stay_none (λ _. Array T.the_row 8) yes, (stay_none (λ _. PEvent.the_
 
 -- the contract that the proof cites
 abbrev Step : {M : Type 1} {𝓤 : Ura M} (𝓛 : Logic 𝓤) (mem : Memory → SProp 𝓤) (run : Routine → Fun 𝓤) → Contract 𝓤
-Step 𝓛 mem run = triple_of 𝓛 step-at.signature (step-at.spec 𝓛 mem run)
+Step 𝓛 mem run = triple_of 𝓛 step_at.signature (step_at.spec 𝓛 mem run)
 
 abbrev arr : List Call → Val
 arr l = only (array_vals (LL.vals T.the_type T'.the_laws) l)
@@ -206,8 +206,8 @@ module _ {M : Type 1} {𝓤 : Ura M} (𝓛 : Logic 𝓤) (mem-of : Memory → SP
           -- [the bytes at ν'; what is kept of them; ν''s token; the table's borrow; the lender's part; ν's token; Γ]
           move ! (2 ∷ 0 ∷ []) $ join ! $ move ! (4 ∷ 2 ∷ 0 ∷ []) $ use3 𝓛 (raw ((Step 𝓛 mem-of run).pre (to_step ν ν' δ δ' l k p us))) (goes_step ν ν' δ δ' l k fits p g us asked) $
           calls_at ! fm (Step 𝓛 mem-of run) known (to_step ν ν' δ δ' l k p us) (os ν ν' δ δ') (λ v.
-          use1 𝓛 (later (some (λ (r : SoFar). ((‵ (flft (ν ∷ []) full_share) ⊛ (‵ (flft (ν' ∷ []) full_share) ⊛ ‵ ftrue)) ⊛ ‵ ((R.the_row).own_val r (v ∷ []))) ⊛ raw (ensured 𝓛 step-at.ended (step-at.clauses 𝓛 mem-of run) (ν ∷ [], (ν' ∷ [], tt)) (args δ δ' l k p us) tt r)))) (id⊢ 𝓤 _) $ await ! tt $ pick ! (λ r.
-          split ! $ move ! (1 ∷ []) $ use1 𝓛 (some (λ (zs : List Call × (Unit {0} × (Unit {0} × (Unit {0} × (List ℕ × Unit {0}))))). ‵ (lasts step-at.ended (ν ∷ [], (ν' ∷ [], tt)) (args δ δ' l k p us) zs) ⊛ raw (fact 𝓤 (Promised l k p us r zs.0 zs.1.1.1.1.0)))) (id⊢ 𝓤 _) $ pick ! (λ zs.
+          use1 𝓛 (later (some (λ (r : SoFar). ((‵ (flft (ν ∷ []) full_share) ⊛ (‵ (flft (ν' ∷ []) full_share) ⊛ ‵ ftrue)) ⊛ ‵ ((R.the_row).own_val r (v ∷ []))) ⊛ raw (ensured 𝓛 step_at.ended (step_at.clauses 𝓛 mem-of run) (ν ∷ [], (ν' ∷ [], tt)) (args δ δ' l k p us) tt r)))) (id⊢ 𝓤 _) $ await ! tt $ pick ! (λ r.
+          split ! $ move ! (1 ∷ []) $ use1 𝓛 (some (λ (zs : List Call × (Unit {0} × (Unit {0} × (Unit {0} × (List ℕ × Unit {0}))))). ‵ (lasts step_at.ended (ν ∷ [], (ν' ∷ [], tt)) (args δ δ' l k p us) zs) ⊛ raw (fact 𝓤 (Promised l k p us r zs.0 zs.1.1.1.1.0)))) (id⊢ 𝓤 _) $ pick ! (λ zs.
           split ! $ move ! (1 ∷ []) $ heard ! (Promised l k p us r zs.0 zs.1.1.1.1.0) (λ e.
           fsplit ! $ fsplit ! $ move ! (1 ∷ []) $ feq_l ! (λ same. move ! (1 ∷ []) $ fsplit ! $ drop ! $ fsplit ! $ drop ! $ fsplit ! $ drop ! $ fsplit ! $ fsplit ! $ move ! (1 ∷ []) $ feq_l ! (λ sameb.
           -- [the bytes' last; true; the table's last; the tokens and the result; what is kept of the bytes; the lender's part; Γ]
@@ -230,11 +230,11 @@ module _ {M : Type 1} {𝓤 : Ura M} (𝓛 : Logic 𝓤) (mem-of : Memory → SP
   abbrev table_val : List Call → Val
   table_val l = (D'.the_laws).1.1.0.val (map (T.the_type).to l)
 
-  told-by : (l : List Call) (u : Val) → IsArr l u → u ≡ table_val l
-  told-by l u is = ap only ((D'.the_laws).1.1.0.tells (map (T.the_type).to l) (u ∷ []) (as_held 8 l (u ∷ []) is))
+  told_by : (l : List Call) (u : Val) → IsArr l u → u ≡ table_val l
+  told_by l u is = ap only ((D'.the_laws).1.1.0.tells (map (T.the_type).to l) (u ∷ []) (as_held 8 l (u ∷ []) is))
 
   as_told : (l : List Call) (u : Val) → IsArr l u → IsArr l (table_val l)
-  as_told l u is = subst (IsArr l) (told-by l u is) is
+  as_told l u is = subst (IsArr l) (told_by l u is) is
 
   abbrev IsGiven : SoFar → List Call → Type 0
   IsGiven p l = Is D.the_row (given p l) (LL.vals D.the_type D'.the_laws (given p l))
@@ -308,7 +308,7 @@ module _ {M : Type 1} {𝓤 : Ura M} (𝓛 : Logic 𝓤) (mem-of : Memory → SP
       assigns ! (agg ! (and_then ! (load ! (from ! (stop !)) (look ! 11 refl)) (and_then ! (lit ! tt) (no_more !)))) (from ! (stop !)) (init ! 9 refl (tt, (tt, (record { fits = lit< tt }, tt)))) $
       assigns ! (addr ! (from ! (fld ! refl (hop ! (look_in ! 20 (sub ! 0 refl (whole !))) (stop !))))) (from ! (stop !)) (init ! 7 refl (tt, tt)) $
       assigns ! (agg ! (and_then ! (load ! (from ! (stop !)) (look ! 7 refl)) (and_then ! (load ! (from ! (fld ! refl (stop !))) (look_in ! 20 (sub ! 1 refl (whole !)))) (no_more !)))) (from ! (stop !)) (init ! 5 refl (tt, (tt, (record { fits = gb.0 }, tt)))) $
-      hands l₄ 𝓣.C 𝓣.Λ (fm_of 𝓤 H 𝓛.laws 𝓣) known gb ! t.tbl (as_many t.put) t.k (below t.k t.put.within) t.p t.is t.buf (same-room t.put) (asks n.0 l₄ t (ltb→lt t.k 8 less))
+      hands l₄ 𝓣.C 𝓣.Λ (fm_of 𝓤 H 𝓛.laws 𝓣) known gb ! t.tbl (as_many t.put) t.k (below t.k t.put.within) t.p t.is t.buf (same_room t.put) (asks n.0 l₄ t (ltb→lt t.k 8 less))
       (λ ν ν' δ δ'. and_then ! (load ! (from ! (stop !)) (look ! 9 refl)) (and_then ! (load ! (from ! (stop !)) (look ! 15 refl)) (and_then ! (load ! (from ! (stop !)) (look ! 22 refl)) (and_then ! (load ! (from ! (stop !)) (look ! 17 refl)) (and_then ! (load ! (from ! (stop !)) (look ! 5 refl)) (no_more !))))))
       (λ v r is zs ws e.
       land ! (from ! (stop !)) (store ! 17 refl (wt_told r v is)) $ rewrite ! 17 (λ (u : Val). ‵ (fat full_share R'.mir l₅ 0 u)) (ap only (LL.tells R.the_type R'.the_laws r _ is)) refl $
@@ -318,13 +318,13 @@ module _ {M : Type 1} {𝓤 : Ura M} (𝓛 : Logic 𝓤) (mem-of : Memory → SP
       -- all places have been passed: the array is had again
       (λ over.
       use1 𝓛 (some (λ (u : Val). ‵ (fat full_share eight l₄ 0 u) ⊛ ‵ ((Array T.the_row 8).own_val t.tbl (u ∷ [])))) (from_row 𝓛 8 t.tbl l₄ (as_many t.put)) $ pick ! (λ u. split ! $ move ! (1 ∷ []) $
-      facts ! (Array T.the_row 8) (Is (Array T.the_row 8)) (shows 𝓛 (Array T.the_row 8)) t.tbl (u ∷ []) (λ is_a. rewrite ! 0 (λ (w : Val). ‵ (fat full_share eight l₄ 0 w)) (told-by t.tbl u is_a) refl $
+      facts ! (Array T.the_row 8) (Is (Array T.the_row 8)) (shows 𝓛 (Array T.the_row 8)) t.tbl (u ∷ []) (λ is_a. rewrite ! 0 (λ (w : Val). ‵ (fat full_share eight l₄ 0 w)) (told_by t.tbl u is_a) refl $
       assigns ! (of_opd ! (load ! (from ! (stop !)) (look ! 0 refl))) (from ! (stop !)) (init ! 3 refl (wt8 t.tbl _ (as_told t.tbl u is_a))) $
       assigns ! (agg ! (and_then ! (load ! (from ! (fld ! refl (stop !))) (look_in ! 17 (sub ! 0 refl (whole !)))) (and_then ! (load ! (from ! (fld ! refl (stop !))) (look_in ! 17 (sub ! 1 refl (whole !)))) (and_then ! (load ! (from ! (stop !)) (look ! 3 refl)) (no_more !))))) (from ! (stop !)) (init ! 26 refl (wt_given t.p t.tbl (given_is t.p t.is t.tbl (as_told t.tbl u is_a)))) $
       returns ! (look ! 26 refl) $
       forget ! 3 refl $ forget ! 13 refl $ forget ! 15 refl $ forget ! 17 refl $ forget ! 0 refl $ forget ! 20 refl $ forget ! 22 refl $ forget ! 24 refl $ forget ! 26 refl $
       move ! (26 ∷ 27 ∷ []) $ free1 ! $ move ! (24 ∷ 25 ∷ []) $ free1 ! $ move ! (22 ∷ 23 ∷ []) $ free1 ! $ move ! (20 ∷ 21 ∷ []) $ free1 ! $ move ! (0 ∷ 19 ∷ []) $ free1 ! $ move ! (16 ∷ 17 ∷ []) $ free1 ! $ move ! (14 ∷ 15 ∷ []) $ free1 ! $ move ! (12 ∷ 13 ∷ []) $ free1 ! $ move ! (10 ∷ 11 ∷ []) $ free1 ! $ move ! (8 ∷ 9 ∷ []) $ free1 ! $ move ! (6 ∷ 7 ∷ []) $ free1 ! $ move ! (4 ∷ 5 ∷ []) $ free1 ! $ move ! (2 ∷ 3 ∷ []) $ free1 ! $ free0 ! $
-      keep ! (1 ∷ 0 ∷ []) $ by ! (exits gc (given t.p t.tbl) _ (given_is t.p t.is t.tbl (as_told t.tbl u is_a)) t.buf (same-room t.put) (laid t (nltb→le t.k 8 over)))))))
+      keep ! (1 ∷ 0 ∷ []) $ by ! (exits gc (given t.p t.tbl) _ (given_is t.p t.is t.tbl (as_told t.tbl u is_a)) t.buf (same_room t.put) (laid t (nltb→le t.k 8 over)))))))
       (record { k = 0; p = zero; tbl = cs; buf = bs; put = put_none l8 n.1; is = zero_is }))))))))))))))
 
 module _ {M : Type 1} {𝓤 : Ura M} (𝓛 : Logic 𝓤) (mem-of : Memory → SProp 𝓤) (run : Routine → Fun 𝓤) where

@@ -192,8 +192,8 @@ module _ {M : Type 1} {𝓤 : Ura M} (𝓛 : Logic 𝓤) (mem : Memory → SProp
   abbrev to_store : Turned → (Store 𝓛 mem run).Ghost
   to_store c = (((κ, tt), (q, tt), tt, (x γ ys, (p-k, (c.call, tt))), (s ∷ [], (vint w64 p-k ∷ [], (next c ∷ [], tt)))), tt)
 
-  goes-store : p-k < length ys → (c : Turned) → Is T.the_row c.call (next c ∷ []) → ent 𝓤 (sep 𝓤 (A.lft κ q) (sem 𝓛 ((MutSlice (named 0) κ T.the_row).own_val (x γ ys) (s ∷ [])))) ((Store 𝓛 mem run).pre (to_store c))
-  goes-store lt c is = qed 𝓛 (‵ (flft κ q) ∷ ‵ ((MutSlice (named 0) κ T.the_row).own_val (x γ ys) (s ∷ [])) ∷ []) ∵ says ! lt $ nothing ! $ move ! (1 ∷ 0 ∷ []) $ join ! $ frame ! $
+  goes_store : p-k < length ys → (c : Turned) → Is T.the_row c.call (next c ∷ []) → ent 𝓤 (sep 𝓤 (A.lft κ q) (sem 𝓛 ((MutSlice (named 0) κ T.the_row).own_val (x γ ys) (s ∷ [])))) ((Store 𝓛 mem run).pre (to_store c))
+  goes_store lt c is = qed 𝓛 (‵ (flft κ q) ∷ ‵ ((MutSlice (named 0) κ T.the_row).own_val (x γ ys) (s ∷ [])) ∷ []) ∵ says ! lt $ nothing ! $ move ! (1 ∷ 0 ∷ []) $ join ! $ frame ! $
       nothing ! $ owned ! T.the_row (Is T.the_row) (LL.makes T.the_type T'.the_plain 𝓛) c.call _ is $ fjoin ! $ owned ! usize (Is usize) (uint_Makes 𝓛 w64) p-k _ g-k $ fjoin ! $ move ! (1 ∷ 0 ∷ []) $ fjoin ! $ done !
 
   -- ---- what is promised, from what the three promise
@@ -217,7 +217,7 @@ module _ {M : Type 1} {𝓤 : Ura M} (𝓛 : Logic 𝓤) (mem : Memory → SProp
         assigns ! (of_opd ! (load ! (from ! (fld ! refl (stop !))) (look_in ! 24 (sub ! 2 refl (whole !))))) (from ! (stop !)) (init ! 22 refl (wt8 c.call _ (held c v is))) $
         assigns ! (addr ! (from ! (fld ! refl (hop ! (look_in ! 34 (sub ! 0 refl (whole !))) (stop !))))) (from ! (stop !)) (init ! 8 refl (tt, tt)) $
         assigns ! (agg ! (and_then ! (load ! (from ! (stop !)) (look ! 8 refl)) (and_then ! (load ! (from ! (fld ! refl (stop !))) (look_in ! 34 (sub ! 1 refl (whole !)))) (no_more !)))) (from ! (stop !)) (init ! 6 refl (tt, (tt, (record { fits = gn.0 }, tt)))) $
-        move ! (0 ∷ 1 ∷ []) $ fjoin ! $ move ! (2 ∷ 0 ∷ []) $ fjoin ! $ move ! (1 ∷ 0 ∷ []) $ use2 𝓛 (raw ((Store 𝓛 mem run).pre (to_store c))) (goes-store lt c (held c v is)) $
+        move ! (0 ∷ 1 ∷ []) $ fjoin ! $ move ! (2 ∷ 0 ∷ []) $ fjoin ! $ move ! (1 ∷ 0 ∷ []) $ use2 𝓛 (raw ((Store 𝓛 mem run).pre (to_store c))) (goes_store lt c (held c v is)) $
         calls_at ! fm (Store 𝓛 mem run) known-Store (to_store c) (and_then ! (load ! (from ! (stop !)) (look ! 3 refl)) (and_then ! (load ! (from ! (stop !)) (look ! 29 refl)) (and_then ! (load ! (from ! (stop !)) (look ! 19 refl)) (no_more !)))) (λ u.
         use1 𝓛 (later (some (λ (r : Unit {0}). ((‵ (flft κ q) ⊛ ‵ ftrue) ⊛ ‵ (Nothing.own_val r (u ∷ []))) ⊛ raw (ensured 𝓛 store_at.ended (store_at.clauses 𝓛 mem run) (κ, tt) (x γ ys, (p-k, (c.call, tt))) tt r)))) (id⊢ 𝓤 _) $ await ! tt $ pick ! (λ r.
         split ! $ move ! (1 ∷ []) $ use1 𝓛 (some (λ (zs : List Call × (Unit {0} × (Unit {0} × Unit {0}))). ‵ (lasts store_at.ended (κ, tt) (x γ ys, (p-k, (c.call, tt))) zs) ⊛ raw (fact 𝓤 (zs.0 ≡ set ys p-k c.call)))) (id⊢ 𝓤 _) $ pick ! (λ zs.

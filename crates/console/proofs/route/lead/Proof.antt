@@ -35,7 +35,7 @@ place_in_requires : tie.Need-place-in-requires
 place_in_requires c κs = search rules
 
 returns : tie.Need-returns
-returns c = rw (← c.before.before.before.read-event.ensures, c.before.unread.ensures, c.place_in_lem.ensures) (unread_leads c.before.before.before.read-event.result _ _ c.before.before.match.keys2)
+returns c = rw (← c.before.before.before.read_event.ensures, c.before.unread.ensures, c.place_in_lem.ensures) (unread_leads c.before.before.before.read_event.result _ _ c.before.before.match.keys2)
 
 route_of_requires : tie.Need-route-of-requires
 route_of_requires c κs = search rules
@@ -50,13 +50,13 @@ enum_known_answer : tie.Need-enum-known-answer
 enum_known_answer c = search rules
 
 returns_2 : tie.Need-returns-2
-returns_2 c = rw (← c.before.before.before.before.before.before.before.read-event.ensures, c.before.before.before.before.before.read.given.1, ← c.before.before.before.route_of.ensures, c.before.k.given.1)
+returns_2 c = rw (← c.before.before.before.before.before.before.before.read_event.ensures, c.before.before.before.before.before.read.given.1, ← c.before.before.before.route_of.ensures, c.before.k.given.1)
 
 returns_3 : tie.Need-returns-3
-returns_3 c = rw (← c.before.before.before.before.before.before.read-event.ensures, c.before.before.before.before.read.given.1, ← c.before.before.route_of.ensures, c.enum_told.given.1)
+returns_3 c = rw (← c.before.before.before.before.before.before.read_event.ensures, c.before.before.before.before.read.given.1, ← c.before.before.route_of.ensures, c.enum_told.given.1)
 
 returns_4 : tie.Need-returns-4
-returns_4 c = rw (← c.before.before.before.before.before.before.before.read-event.ensures, c.before.before.before.before.before.read.given.1, ← c.before.before.before.route_of.ensures, c.before.answer.given.1)
+returns_4 c = rw (← c.before.before.before.before.before.before.before.read_event.ensures, c.before.before.before.before.before.read.given.1, ← c.before.before.before.route_of.ensures, c.before.answer.given.1)
 
 pub lead_spec : {M : Type 1} → statement M
 lead_spec =

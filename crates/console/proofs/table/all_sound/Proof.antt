@@ -7,7 +7,7 @@ use borrow.Author.Tests.{not-true, not-false}
 use lib.ListN.{length, drop}
 use Rattle.callcontrol.specs.Call.{sound}
 use Rattle.console.specs.Table.{every?}
-use Rattle.console.proofs.Places.{every_not, every-later, every-end}
+use Rattle.console.proofs.Places.{every_not, every_later, every_end}
 use Rattle.console.proofs.table.all_sound.Statement.{statement}
 use Rattle.console.proofs.table.all_sound.Tie as tie
 
@@ -43,10 +43,10 @@ loop_less c = omega arith
 loop_again : tie.Need-loop-preserved invariant_loop decreases_loop
 loop_again c =
     let l = c.before.before.before.before in
-    (l.loop.invariant.0 ∙ every-later l.before.args.t1 l.loop.k (omega arith) sound (sym c.before.sound.ensures ∙ not-false _ c.if1.false), omega arith, l.loop.invariant.2)
+    (l.loop.invariant.0 ∙ every_later l.before.args.t1 l.loop.k (omega arith) sound (sym c.before.sound.ensures ∙ not-false _ c.if1.false), omega arith, l.loop.invariant.2)
 
 returns_2 : tie.Need-returns-2 invariant_loop decreases_loop
-returns_2 c = every-end c.before.before.args.t1 c.before.loop.k (omega arith) sound ∙ sym c.before.loop.invariant.0
+returns_2 c = every_end c.before.before.args.t1 c.before.loop.k (omega arith) sound ∙ sym c.before.loop.invariant.0
 
 pub all_sound_spec : {M : Type 1} → statement M
 all_sound_spec =

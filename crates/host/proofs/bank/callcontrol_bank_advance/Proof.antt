@@ -1,5 +1,5 @@
 -- Bytes that are no bank are refused; else the bank is asked, and packed where its answer is 0.
-use Rattle.host.proofs.BankAnswers.{no_bank, bank-length, packs, leaves, count_small}
+use Rattle.host.proofs.BankAnswers.{no_bank, bank_length, packs, leaves, count_small}
 use Rattle.timers.specs.Bank.{advanced}
 use borrow.Author.Rules.{rules}
 use mathlib.Core.Path.{refl}
@@ -11,7 +11,7 @@ returns : tie.Need-returns
 returns c = no_bank _ _ _ c.before.is-bank.ensures c.if1.true
 
 held_bank_requires : tie.Need-held-bank-requires
-held_bank_requires c κs = bank-length _ c.before.before.is-bank.ensures c.before.if1.false
+held_bank_requires c κs = bank_length _ c.before.before.is_bank_lem.ensures c.before.if1.false
 
 cast_result : tie.Need-overflow-cast-result
 cast_result c = omega (arith, count_small _ _ _ c.before.before.before.before.before.advance.ensures)
@@ -22,7 +22,7 @@ add_result c = omega (arith, count_small _ _ _ c.before.before.before.before.bef
 pack_bank_requires : tie.Need-pack-bank-requires
 pack_bank_requires c κs =
     let g = c.before.before.before.before.before.before.before.before.before.before.before in
-    bank-length _ g.before.is-bank.ensures g.if1.false
+    bank_length _ g.before.is_bank_lem.ensures g.if1.false
 
 returns_2 : tie.Need-returns-2
 returns_2 c =
@@ -32,8 +32,8 @@ returns_2 c =
     let h = t.before.before in
     let g = h.before.before in
     let a = g.before.before.before.before.before.args in
-    packs _ a.due.now (λ b. advanced b a.reading a.due.now) g.before.is-bank.ensures g.if1.false h.held-bank.ensures t.advance.ensures
-    n.answer-number.ensures.0 refl p.before.before.if2.true p.pack-bank.ensures
+    packs _ a.due.now (λ b. advanced b a.reading a.due.now) g.before.is_bank_lem.ensures g.if1.false h.held-bank.ensures t.advance.ensures
+    n.answer_number_lem.ensures.0 refl p.before.before.if2.true p.pack-bank.ensures
 
 returns_3 : tie.Need-returns-3
 returns_3 c =
@@ -42,8 +42,8 @@ returns_3 c =
     let h = t.before.before in
     let g = h.before.before in
     let a = g.before.before.before.before.before.args in
-    leaves _ a.due.now (λ b. advanced b a.reading a.due.now) g.before.is-bank.ensures g.if1.false h.held-bank.ensures t.advance.ensures
-    n.answer-number.ensures.0 refl c.if2.false
+    leaves _ a.due.now (λ b. advanced b a.reading a.due.now) g.before.is_bank_lem.ensures g.if1.false h.held-bank.ensures t.advance.ensures
+    n.answer_number_lem.ensures.0 refl c.if2.false
 
 pub callcontrol_bank_advance_spec : {M : Type 1} → statement M
 callcontrol_bank_advance_spec =

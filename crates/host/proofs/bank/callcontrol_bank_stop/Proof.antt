@@ -1,5 +1,5 @@
 -- Bytes that are no bank are refused; else the bank is asked, and packed where its answer is 0.
-use Rattle.host.proofs.BankAnswers.{no_bank, bank-length, packs, leaves}
+use Rattle.host.proofs.BankAnswers.{no_bank, bank_length, packs, leaves}
 use Rattle.timers.specs.Bank.{stopped}
 use borrow.Author.Rules.{rules}
 use mathlib.Core.List.{[]}
@@ -11,12 +11,12 @@ returns : tie.Need-returns
 returns c = no_bank _ _ _ c.before.is-bank.ensures c.if1.true
 
 held_bank_requires : tie.Need-held-bank-requires
-held_bank_requires c κs = bank-length _ c.before.before.is-bank.ensures c.before.if1.false
+held_bank_requires c κs = bank_length _ c.before.before.is_bank_lem.ensures c.before.if1.false
 
 pack_bank_requires : tie.Need-pack-bank-requires
 pack_bank_requires c κs =
     let g = c.before.before.before.before.before.before.before in
-    bank-length _ g.before.is-bank.ensures g.if1.false
+    bank_length _ g.before.is_bank_lem.ensures g.if1.false
 
 returns_2 : tie.Need-returns-2
 returns_2 c =
@@ -26,7 +26,7 @@ returns_2 c =
     let h = t.before in
     let g = h.before.before in
     let a = g.before.before.before.before.args in
-    packs _ [] (λ b. stopped b a.timer) g.before.is-bank.ensures g.if1.false h.held-bank.ensures t.stop.ensures n.answer-number.ensures.0 (omega arith)
+    packs _ [] (λ b. stopped b a.timer) g.before.is_bank_lem.ensures g.if1.false h.held-bank.ensures t.stop.ensures n.answer_number_lem.ensures.0 (omega arith)
     p.before.before.if2.true p.pack-bank.ensures
 
 returns_3 : tie.Need-returns-3
@@ -36,7 +36,7 @@ returns_3 c =
     let h = t.before in
     let g = h.before.before in
     let a = g.before.before.before.before.args in
-    leaves _ [] (λ b. stopped b a.timer) g.before.is-bank.ensures g.if1.false h.held-bank.ensures t.stop.ensures n.answer-number.ensures.0 (omega arith) c.if2.false
+    leaves _ [] (λ b. stopped b a.timer) g.before.is_bank_lem.ensures g.if1.false h.held-bank.ensures t.stop.ensures n.answer_number_lem.ensures.0 (omega arith) c.if2.false
 
 pub callcontrol_bank_stop_spec : {M : Type 1} → statement M
 callcontrol_bank_stop_spec =

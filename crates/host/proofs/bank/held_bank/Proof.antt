@@ -8,7 +8,7 @@ returns : tie.Need-returns
 unfolding held_bank
 returns c =
     let l = c.before.before.before.before.before.before.before in
-    rw (l.long-at8.ensures, l.before.long-at7.ensures, l.before.before.long-at6.ensures, l.before.before.before.long-at5.ensures, l.before.before.before.before.long-at4.ensures, l.before.before.before.before.before.long-at3.ensures, l.before.before.before.before.before.before.long-at2.ensures, l.before.before.before.before.before.before.before.long-at.ensures)
+    rw (l.long-at8.ensures, l.before.long-at7.ensures, l.before.before.long-at6.ensures, l.before.before.before.long-at5.ensures, l.before.before.before.before.long-at4.ensures, l.before.before.before.before.before.long-at3.ensures, l.before.before.before.before.before.before.long-at2.ensures, l.before.before.before.before.before.before.before.long_at.ensures)
 
 pub held_bank_spec : {M : Type 1} → statement M
 held_bank_spec =

@@ -2,7 +2,7 @@
 use Rattle.host.specs.Bank.{flags, packed_bank}
 use Prim.Native.Nat.{ℕ}
 use lib.ListN.{get_or}
-use Rattle.host.proofs.BankBytes.{eight-numbers}
+use Rattle.host.proofs.BankBytes.{eight_numbers}
 use borrow.Author.Rules.{rules}
 use native.Mathlib.Omega.{arith}
 use Rattle.host.proofs.bank.pack_bank.Statement.{statement}
@@ -36,7 +36,7 @@ returns c =
     let a = p1.before.before.before.before.before.args in
     let d : ℕ → ℕ = λ k. get_or a.bank.deadlines k 0 in
     rw (f.put-flags.ensures, p8.put-long8.ensures, p7.put-long7.ensures, p6.put-long6.ensures, p5.put-long5.ensures, p4.put-long4.ensures, p3.put-long3.ensures, p2.put-long2.ensures, p1.put-long.ensures)
-    (eight-numbers a.s.now a.bank.last (d 0) (d 1) (d 2) (d 3) (d 4) (d 5) (d 6) (flags a.bank.running))
+    (eight_numbers a.s.now a.bank.last (d 0) (d 1) (d 2) (d 3) (d 4) (d 5) (d 6) (flags a.bank.running))
 
 pub pack_bank_spec : {M : Type 1} → statement M
 pack_bank_spec =

@@ -32,4 +32,4 @@ held_spec =
     (λ c.
     let a = c.before.before.before.before.before.before.before in
     let p = a.before.before.before.before.before.before.before.before.before in
-    rw (a.long-at.ensures, a.before.word_at.ensures, p.path-is.ensures, p.before.before.state-is.ensures)))
+    rw (a.long_at.ensures, a.before.word_at.ensures, p.path-is.ensures, p.before.before.state_is.ensures)))

@@ -1,6 +1,6 @@
 -- Bytes that are no rooms are refused; else the rooms are asked, and packed where the answer is 0.
 use Rattle.channel.specs.Questions.{ended_of}
-use Rattle.host.proofs.ChannelAnswers.{no_rooms, rooms-length, left-rooms, ended_few}
+use Rattle.host.proofs.ChannelAnswers.{no_rooms, rooms_length, left_rooms, ended_few}
 use borrow.Author.Rules.{rules}
 use Rattle.host.proofs.rooms.callcontrol_channel_ended.Statement.{statement}
 use Rattle.host.proofs.rooms.callcontrol_channel_ended.Tie as tie
@@ -17,14 +17,14 @@ returns c =
 
 held_rooms_requires : tie.Need-held-rooms-requires
 held_rooms_requires c κs =
-    rooms-length _ c.before.before.is-rooms.ensures c.before.if1.false
+    rooms_length _ c.before.before.is-rooms.ensures c.before.if1.false
 
 ended_requires : tie.Need-ended-requires
 ended_requires c κs = search rules
 
 leave_requires : tie.Need-leave-requires
 leave_requires c κs =
-    (rooms-length _ c.before.before.before.before.before.before.before.before.is-rooms.ensures c.before.before.before.before.before.before.before.if1.false, ended_few _ _ _ c.before.before.before.ended.ensures)
+    (rooms_length _ c.before.before.before.before.before.before.before.before.is-rooms.ensures c.before.before.before.before.before.before.before.if1.false, ended_few _ _ _ c.before.before.before.ended.ensures)
 
 same_length_2 : tie.Need-same-length-2
 same_length_2 c = search rules
@@ -34,7 +34,7 @@ same_length_3 c = search rules
 
 returns_2 : tie.Need-returns-2
 returns_2 c =
-    let a = c.before.before.before.before.before.before.before.before.before.before.before.before.before.before.before.args in left-rooms _ a.out.now (λ held. ended_of held a.call a.out.now) c.before.before.before.before.before.before.ended.result c.before.before.before.before.before.before.before.before.before.before.before.is-rooms.ensures c.before.before.before.before.before.before.before.before.before.before.if1.false c.before.before.before.before.before.before.before.before.held-rooms.ensures c.before.before.before.before.before.before.ended.ensures c.before.before.leave.ensures
+    let a = c.before.before.before.before.before.before.before.before.before.before.before.before.before.before.before.args in left_rooms _ a.out.now (λ held. ended_of held a.call a.out.now) c.before.before.before.before.before.before.ended.result c.before.before.before.before.before.before.before.before.before.before.before.is-rooms.ensures c.before.before.before.before.before.before.before.before.before.before.if1.false c.before.before.before.before.before.before.before.before.held-rooms.ensures c.before.before.before.before.before.before.ended.ensures c.before.before.leave.ensures
 
 pub callcontrol_channel_ended_spec : {M : Type 1} → statement M
 callcontrol_channel_ended_spec =

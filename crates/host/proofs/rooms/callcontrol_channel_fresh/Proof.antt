@@ -22,7 +22,7 @@ same_length c = search rules
 returns_2 : tie.Need-returns-2
 unfolding rooms_freshened
 returns_2 c =
-    rw (eq-eqb _ _ c.before.before.before.before.before.if1.false, c.before.before.pack-rooms.ensures, c.before.before.before.before.fresh-rooms.ensures)
+    rw (eq-eqb _ _ c.before.before.before.before.before.if1.false, c.before.before.pack-rooms.ensures, c.before.before.before.before.fresh_rooms.ensures)
 
 pub callcontrol_channel_fresh_spec : {M : Type 1} → statement M
 callcontrol_channel_fresh_spec =

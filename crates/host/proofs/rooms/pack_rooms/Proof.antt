@@ -1,6 +1,6 @@
 -- Four rooms are the whole.
 use Rattle.host.specs.Channel.{packed_rooms}
-use Rattle.host.proofs.ChannelAnswers.{four-rooms}
+use Rattle.host.proofs.ChannelAnswers.{four_rooms}
 use borrow.Author.Rules.{rules}
 use Rattle.host.proofs.rooms.pack_rooms.Statement.{statement}
 use Rattle.host.proofs.rooms.pack_rooms.Tie as tie
@@ -35,7 +35,7 @@ same_length c = search rules
 returns : tie.Need-returns
 unfolding packed_rooms
 returns c =
-    rw (c.before.before.put-room4.ensures, c.before.before.before.before.before.before.before.put-room3.ensures, c.before.before.before.before.before.before.before.before.before.before.before.before.put-room2.ensures, c.before.before.before.before.before.before.before.before.before.before.before.before.before.before.before.before.before.put-room.ensures) (four-rooms _ _ _ _ _)
+    rw (c.before.before.put-room4.ensures, c.before.before.before.before.before.before.before.put-room3.ensures, c.before.before.before.before.before.before.before.before.before.before.before.before.put-room2.ensures, c.before.before.before.before.before.before.before.before.before.before.before.before.before.before.before.before.before.put-room.ensures) (four_rooms _ _ _ _ _)
 
 pub pack_rooms_spec : {M : Type 1} → statement M
 pack_rooms_spec =

@@ -60,7 +60,7 @@ same_length c = search rules
 returns : tie.Need-returns
 unfolding packed_room bytes
 returns c =
-    rw (c.before.before.before.before.wait-number.ensures.0, add-one, add-two, add-three, add-four)
+    rw (c.before.before.before.before.wait_number.ensures.0, add-one, add-two, add-three, add-four)
 
 pub put_room_spec : {M : Type 1} → statement M
 put_room_spec =

@@ -1,7 +1,7 @@
 -- Eight fresh records, where there is room for them.
 use borrow.Author.Tests.{eq-eqb, ne_eqb}
 use Rattle.host_console.specs.Table.{console_freshened}
-use Rattle.host_console.proofs.Tables.{all-packed}
+use Rattle.host_console.proofs.Tables.{all_packed}
 use borrow.Author.Rules.{rules}
 use Rattle.host_console.proofs.table.callcontrol_console_fresh.Statement.{statement}
 use Rattle.host_console.proofs.table.callcontrol_console_fresh.Tie as tie
@@ -21,7 +21,7 @@ same_length c = search rules
 
 returns_2 : tie.Need-returns-2
 unfolding console_freshened
-returns_2 c = rw (eq-eqb _ _ c.before.before.before.before.before.if1.false, c.before.before.pack-table.ensures, all-packed _ c.before.before.before.before.before.before.before.args.table.now, c.before.before.before.before.fresh.ensures)
+returns_2 c = rw (eq-eqb _ _ c.before.before.before.before.before.if1.false, c.before.before.pack-table.ensures, all_packed _ c.before.before.before.before.before.before.before.args.table.now, c.before.before.before.before.fresh.ensures)
 
 pub callcontrol_console_fresh_spec : {M : Type 1} → statement M
 callcontrol_console_fresh_spec =

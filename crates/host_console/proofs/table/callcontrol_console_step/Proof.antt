@@ -4,7 +4,7 @@ use mathlib.Core.Path.{◌∙◌}
 use native.Mathlib.Omega.{arith}
 use borrow.Author.Rules.{rules}
 use Rattle.host_console.proofs.Tables.{no_table, known}
-use Rattle.host_console.proofs.Entry.{to_below, to_one, all-aimed, to_every, to_none}
+use Rattle.host_console.proofs.Entry.{to_below, to_one, all_aimed, to_every, to_none}
 use Rattle.host_console.proofs.table.callcontrol_console_step.Statement.{statement}
 use Rattle.host_console.proofs.table.callcontrol_console_step.Tie as tie
 
@@ -34,7 +34,7 @@ to_place_requires c κs =
     let t = e.before.before in
     let a = t.before.before.before.before.before.args in
     let n = known a.table.now t.table-keys.ensures e.if1.false in
-    (to_below a.table.now a.place a.event.now a.out.now n d.lead.ensures k.k.given.1, n.is-table)
+    (to_below a.table.now a.place a.event.now a.out.now n d.lead.ensures k.k.given.1, n.is_table_lem)
 
 enum_known_e : tie.Need-enum-known-e
 enum_known_e c = search rules
@@ -47,7 +47,7 @@ to_all_requires c κs =
     let t = e.before.before in
     let a = t.before.before.before.before.before.args in
     let n = known a.table.now t.table-keys.ensures e.if1.false in
-    (all-aimed a.table.now a.place a.event.now a.out.now n d.lead.ensures k.e.given.1, n.is-table)
+    (all_aimed a.table.now a.place a.event.now a.out.now n d.lead.ensures k.e.given.1, n.is_table_lem)
 
 enum_known_answer : tie.Need-enum-known-answer
 enum_known_answer c = search rules

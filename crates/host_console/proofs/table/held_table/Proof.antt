@@ -29,11 +29,11 @@ add_held c = omega arith
 sub_held : tie.Need-overflow-sub-held invariant_loop decreases_loop
 sub_held c = omega arith
 
-part-held-start : tie.Need-slice-bounds-held-start invariant_loop decreases_loop
-part-held-start c = omega arith
+part_held_start : tie.Need-slice-bounds-held-start invariant_loop decreases_loop
+part_held_start c = omega arith
 
-part-held-end : tie.Need-slice-bounds-held-end invariant_loop decreases_loop
-part-held-end c = omega arith
+part_held_end : tie.Need-slice-bounds-held-end invariant_loop decreases_loop
+part_held_end c = omega arith
 
 held_requires : tie.Need-held-requires invariant_loop decreases_loop
 held_requires c κs = search rules
@@ -69,8 +69,8 @@ held_table_spec =
     mul_at
     add_held
     sub_held
-    part-held-start
-    part-held-end
+    part_held_start
+    part_held_end
     held_requires
     mul_calls
     array_set_from_calls

@@ -3,7 +3,7 @@ use Prim.Native.Nat.{◌≤◌, ◌-◌}
 use mathlib.Core.Path.{◌≡◌, refl, sym, ◌∙◌}
 use native.Mathlib.Omega.{arith}
 use lib.ListN.{length}
-use Rattle.host_console.proofs.Tables.{Packing, pack_next, first-packed}
+use Rattle.host_console.proofs.Tables.{Packing, pack_next, first_packed}
 use borrow.Author.Rules.{rules}
 use Rattle.host_console.proofs.table.pack_table.Statement.{statement}
 use Rattle.host_console.proofs.table.pack_table.Tie as tie
@@ -58,7 +58,7 @@ same_length : tie.Need-same-length invariant_loop decreases_loop
 same_length c = c.before.loop.invariant.2 ∙ sym c.before.loop.invariant.3
 
 returns : tie.Need-returns invariant_loop decreases_loop
-returns c = first-packed _ _ c.before.loop.place c.before.before.before.args.upto c.before.loop.invariant.0 (omega arith)
+returns c = first_packed _ _ c.before.loop.place c.before.before.before.args.upto c.before.loop.invariant.0 (omega arith)
 
 pub pack_table_spec : {M : Type 1} → statement M
 pack_table_spec =

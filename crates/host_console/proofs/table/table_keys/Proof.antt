@@ -8,10 +8,10 @@ use lib.ListN.{length, drop}
 use Rattle.callcontrol.specs.Call.{sound}
 use Rattle.console.specs.Table.{every?}
 use Rattle.console.specs.Keys.{key_of}
-use Rattle.console.proofs.Places.{every_not, every-later, every-end}
-use Rattle.console.proofs.ByKeys.{keys_first, key_next, all-keys}
+use Rattle.console.proofs.Places.{every_not, every_later, every_end}
+use Rattle.console.proofs.ByKeys.{keys_first, key_next, all_keys}
 use Rattle.host_console.specs.Table.{held_table}
-use Rattle.host_console.proofs.Tables.{first_are, other_part, part_more, all_parts, part_held, eight-held, not_all_bytes, not_a_record, not_sound, all_read}
+use Rattle.host_console.proofs.Tables.{first_are, other_part, part_more, all_parts, part_held, eight_held, not_all_bytes, not_a_record, not_sound, all_read}
 use borrow.Author.Rules.{rules}
 use Rattle.host_console.proofs.table.table_keys.Statement.{statement}
 use Rattle.host_console.proofs.table.table_keys.Tie as tie
@@ -60,11 +60,11 @@ add_held c = omega arith
 sub_held : tie.Need-overflow-sub-held invariant_loop decreases_loop
 sub_held c = omega arith
 
-part-held-start : tie.Need-slice-bounds-held-start invariant_loop decreases_loop
-part-held-start c = omega arith
+part_held_start : tie.Need-slice-bounds-held-start invariant_loop decreases_loop
+part_held_start c = omega arith
 
-part-held-end : tie.Need-slice-bounds-held-end invariant_loop decreases_loop
-part-held-end c = omega arith
+part_held_end : tie.Need-slice-bounds-held-end invariant_loop decreases_loop
+part_held_end c = omega arith
 
 held_requires : tie.Need-held-requires invariant_loop decreases_loop
 held_requires c κs = search rules
@@ -79,7 +79,7 @@ returns_3 c =
     let l = i.before in
     let s = l.before.before.before.args.s.now in
     let k = l.loop.k in
-    let n = eight-held s in
+    let n = eight_held s in
     let same = part_held s k i.loop-test.true h.held.ensures in
     let not_here = ap sound (sym same) ∙ sym c.before.sound.ensures ∙ not-true _ c.if3.true in
     not_sound s _ (l.loop.invariant.1 ∙ sym (every_not (held_table s) k (omega arith) sound not_here))
@@ -108,11 +108,11 @@ loop_again c =
     let l = i.before in
     let s = l.before.before.before.args.s.now in
     let k = l.loop.k in
-    let n = eight-held s in
+    let n = eight_held s in
     let same = part_held s k i.loop-test.true h.held.ensures in
     let here = ap sound (sym same) ∙ sym d.before.sound.ensures ∙ not-false _ d.if3.false in (
       part_more s k r.before.is_record_lem.ensures r.if2.false l.loop.invariant.0,
-      l.loop.invariant.1 ∙ every-later (held_table s) k (omega arith) sound here,
+      l.loop.invariant.1 ∙ every_later (held_table s) k (omega arith) sound here,
       key_next (held_table s) k l.loop.invariant.2 (c.key_of_lem.ensures ∙ ap (key_of k) same),
       omega arith,
       l.loop.invariant.4,
@@ -126,10 +126,10 @@ returns_4 c =
     let l = c.before.before in
     let s = l.before.before.before.args.s.now in
     let k = l.loop.k in
-    let n = eight-held s in
+    let n = eight_held s in
     all_read s _ (all_parts s k l.loop.invariant.0 (omega arith))
-    (l.loop.invariant.1 ∙ sym (every-end (held_table s) k (omega arith) sound))
-    (all-keys (held_table s) k l.loop.invariant.2 (omega arith) n)
+    (l.loop.invariant.1 ∙ sym (every_end (held_table s) k (omega arith) sound))
+    (all_keys (held_table s) k l.loop.invariant.2 (omega arith) n)
     c.apart_by.ensures
 
 pub table_keys_spec : {M : Type 1} → statement M
@@ -149,8 +149,8 @@ table_keys_spec =
     returns_2
     add_held
     sub_held
-    part-held-start
-    part-held-end
+    part_held_start
+    part_held_end
     held_requires
     sound_requires
     returns_3

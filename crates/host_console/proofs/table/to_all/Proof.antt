@@ -4,10 +4,10 @@ use mathlib.Core.Path.{◌∙◌, ap}
 use native.Mathlib.Omega.{arith}
 use lib.ListN.{length}
 use borrow.Author.Rules.{rules}
-use Rattle.console.proofs.Everywhere.{own_fits, front-size, front-within}
+use Rattle.console.proofs.Everywhere.{own_fits, front_size, front_within}
 use Rattle.console.proofs.Rooms.{own_room}
-use Rattle.host_console.proofs.Tables.{table-length, eight-held}
-use Rattle.host_console.proofs.All.{few, none_left, short-left, all_left}
+use Rattle.host_console.proofs.Tables.{table_length, eight_held}
+use Rattle.host_console.proofs.All.{few, none_left, short_left, all_left}
 use Rattle.host_console.proofs.table.to_all.Statement.{statement}
 use Rattle.host_console.proofs.table.to_all.Tie as tie
 
@@ -15,7 +15,7 @@ own_buffer_requires : tie.Need-own-buffer-requires
 own_buffer_requires c κs = search rules
 
 held_table_requires : tie.Need-held-table-requires
-held_table_requires c κs = table-length _ c.before.before.before.before.requires.1
+held_table_requires c κs = table_length _ c.before.before.before.before.requires.1
 
 slice_aggregate_put_all : tie.Need-slice-aggregate-put-all
 slice_aggregate_put_all c = search rules
@@ -25,7 +25,7 @@ put_all_requires c κs =
     let h = c.before in
     let o = h.before.before in
     let z = o.before.before.before in
-    (z.requires.0, own_room h.held-table.result z.args.event o.own_buffer.result z.requires.0 (ap length h.held-table.ensures ∙ eight-held z.args.table.now) o.own_buffer.ensures.1)
+    (z.requires.0, own_room h.held-table.result z.args.event o.own_buffer.result z.requires.0 (ap length h.held-table.ensures ∙ eight_held z.args.table.now) o.own_buffer.ensures.1)
 
 mul_result : tie.Need-overflow-mul-result
 mul_result c = search rules
@@ -53,7 +53,7 @@ returns_2 c =
     let h = p.before.before in
     let o = h.before.before in
     let z = o.before.before.before in
-    short-left z.args.table.now z.args.out.now z.args.event h.held-table.ensures p.put_all.ensures c.before.if1.false c.if2.true
+    short_left z.args.table.now z.args.out.now z.args.event h.held-table.ensures p.put_all.ensures c.before.if1.false c.if2.true
 
 array_share_prefix_own : tie.Need-array-share-prefix-own
 array_share_prefix_own c =
@@ -61,7 +61,7 @@ array_share_prefix_own c =
     let h = p.before.before in
     let o = h.before.before in
     let z = o.before.before.before in
-    own_fits h.held-table.result z.args.event p.put_all.ensures (own_room h.held-table.result z.args.event o.own_buffer.result z.requires.0 (ap length h.held-table.ensures ∙ eight-held z.args.table.now) o.own_buffer.ensures.1)
+    own_fits h.held-table.result z.args.event p.put_all.ensures (own_room h.held-table.result z.args.event o.own_buffer.result z.requires.0 (ap length h.held-table.ensures ∙ eight_held z.args.table.now) o.own_buffer.ensures.1)
 
 slice_aggregate_copy : tie.Need-slice-aggregate-copy
 slice_aggregate_copy c =
@@ -69,7 +69,7 @@ slice_aggregate_copy c =
     let h = p.before.before in
     let o = h.before.before in
     let z = o.before.before.before in
-    front-size _ _ (own_fits h.held-table.result z.args.event p.put_all.ensures (own_room h.held-table.result z.args.event o.own_buffer.result z.requires.0 (ap length h.held-table.ensures ∙ eight-held z.args.table.now) o.own_buffer.ensures.1))
+    front_size _ _ (own_fits h.held-table.result z.args.event p.put_all.ensures (own_room h.held-table.result z.args.event o.own_buffer.result z.requires.0 (ap length h.held-table.ensures ∙ eight_held z.args.table.now) o.own_buffer.ensures.1))
 
 copy_requires : tie.Need-copy-requires
 copy_requires c κs =
@@ -77,7 +77,7 @@ copy_requires c κs =
     let h = p.before.before in
     let o = h.before.before in
     let z = o.before.before.before in
-    front-within _ _ z.args.out.now (own_fits h.held-table.result z.args.event p.put_all.ensures (own_room h.held-table.result z.args.event o.own_buffer.result z.requires.0 (ap length h.held-table.ensures ∙ eight-held z.args.table.now) o.own_buffer.ensures.1)) c.before.before.if2.false
+    front_within _ _ z.args.out.now (own_fits h.held-table.result z.args.event p.put_all.ensures (own_room h.held-table.result z.args.event o.own_buffer.result z.requires.0 (ap length h.held-table.ensures ∙ eight_held z.args.table.now) o.own_buffer.ensures.1)) c.before.before.if2.false
 
 pack_table_requires : tie.Need-pack-table-requires
 pack_table_requires c κs =
@@ -85,7 +85,7 @@ pack_table_requires c κs =
     let h = p.before.before in
     let o = h.before.before in
     let z = o.before.before.before in
-    (table-length _ z.requires.1, omega (arith, p.put_all.ensures.within))
+    (table_length _ z.requires.1, omega (arith, p.put_all.ensures.within))
 
 cast_result : tie.Need-overflow-cast-result
 cast_result c =
@@ -110,7 +110,7 @@ returns_3 c =
     let o = h.before.before in
     let z = o.before.before.before in
     all_left z.args.table.now z.args.out.now z.args.event h.held-table.ensures p.put_all.ensures (λ (i : ℕ). omega (arith, o.before.before.slice-known.given i)) z.requires.1 k.before.before.before.before.if1.false k.before.before.before.if2.false
-    (own_fits h.held-table.result z.args.event p.put_all.ensures (own_room h.held-table.result z.args.event o.own_buffer.result z.requires.0 (ap length h.held-table.ensures ∙ eight-held z.args.table.now) o.own_buffer.ensures.1)) k.copy.ensures.1 t.pack-table.ensures
+    (own_fits h.held-table.result z.args.event p.put_all.ensures (own_room h.held-table.result z.args.event o.own_buffer.result z.requires.0 (ap length h.held-table.ensures ∙ eight_held z.args.table.now) o.own_buffer.ensures.1)) k.copy.ensures.1 t.pack-table.ensures
 
 pub to_all_spec : {M : Type 1} → statement M
 to_all_spec =

@@ -2,7 +2,7 @@
 use Prim.Native.Nat.{ℕ}
 use native.Mathlib.Omega.{arith}
 use borrow.Author.Rules.{rules}
-use Rattle.host_console.proofs.Tables.{table-length, part_held, at-place, few_written, packs, leaves}
+use Rattle.host_console.proofs.Tables.{table_length, part_held, at_place_lem, few_written, packs, leaves}
 use Rattle.host_console.proofs.OnePlace.{packed_one}
 use Rattle.host_console.proofs.table.to_place.Statement.{statement}
 use Rattle.host_console.proofs.table.to_place.Tie as tie
@@ -16,13 +16,13 @@ add_held c = search rules
 sub_held : tie.Need-overflow-sub-held
 sub_held c = search rules
 
-part-held-start : tie.Need-slice-bounds-held-start
-part-held-start c = search rules
+part_held_start : tie.Need-slice-bounds-held-start
+part_held_start c = search rules
 
-part-held-end : tie.Need-slice-bounds-held-end
-part-held-end c =
+part_held_end : tie.Need-slice-bounds-held-end
+part_held_end c =
     let z = c.before.before.before in
-    omega (arith, table-length _ z.requires.1, z.requires.0)
+    omega (arith, table_length _ z.requires.1, z.requires.0)
 
 held_requires : tie.Need-held-requires
 held_requires c κs = search rules
@@ -52,10 +52,10 @@ add_result : tie.Need-overflow-add-result
 add_result c = search rules
 
 cast_result_2 : tie.Need-overflow-cast-result-2
-cast_result_2 c = omega (arith, few_written _ _ _ _ c.before.before.before.before.before.before.place-step.ensures)
+cast_result_2 c = omega (arith, few_written _ _ _ _ c.before.before.before.before.before.before.place_step.ensures)
 
 add_result_2 : tie.Need-overflow-add-result-2
-add_result_2 c = omega (arith, few_written _ _ _ _ c.before.before.before.before.before.before.place-step.ensures)
+add_result_2 c = omega (arith, few_written _ _ _ _ c.before.before.before.before.before.before.place_step.ensures)
 
 add_pack : tie.Need-overflow-add-pack
 add_pack c = search rules
@@ -70,7 +70,7 @@ part_pack_end : tie.Need-slice-bounds-pack-end
 part_pack_end c =
     let t = c.before.before.before.before.before.before.before in
     let z = t.before.before.before.before.before.before.before in
-    omega (arith, table-length _ z.requires.1, z.requires.0)
+    omega (arith, table_length _ z.requires.1, z.requires.0)
 
 pack_requires : tie.Need-pack-requires
 pack_requires c κs = search rules
@@ -91,7 +91,7 @@ returns c =
     let z = h.before.before.before.before.before in
     let s = z.args.table.now in
     let k = z.args.k in
-    packs s (at-place s k z.args.event z.args.out.now (part_held s k z.requires.0 h.held.ensures) t.place-step.ensures) n.answer-number.ensures.0 d.if1.true
+    packs s (at_place_lem s k z.args.event z.args.out.now (part_held s k z.requires.0 h.held.ensures) t.place_step.ensures) n.answer_number_lem.ensures.0 d.if1.true
     (packed_one s (λ (i : ℕ). omega (arith, h.before.before.before.before.slice-known.given i)) z.requires.1 k z.requires.0 _ p.pack.ensures)
 
 same_length_3 : tie.Need-same-length-3
@@ -108,7 +108,7 @@ returns_2 c =
     let z = h.before.before.before.before.before in
     let s = z.args.table.now in
     let k = z.args.k in
-    leaves s (at-place s k z.args.event z.args.out.now (part_held s k z.requires.0 h.held.ensures) t.place-step.ensures) n.answer-number.ensures.0 c.if1.false
+    leaves s (at_place_lem s k z.args.event z.args.out.now (part_held s k z.requires.0 h.held.ensures) t.place_step.ensures) n.answer_number_lem.ensures.0 c.if1.false
 
 pub to_place_spec : {M : Type 1} → statement M
 to_place_spec =
@@ -117,8 +117,8 @@ to_place_spec =
     mul_at
     add_held
     sub_held
-    part-held-start
-    part-held-end
+    part_held_start
+    part_held_end
     held_requires
     cast_place_step
     place_step_requires

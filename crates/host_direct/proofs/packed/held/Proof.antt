@@ -17,4 +17,4 @@ held_spec =
     (λ c. search rules)
     (λ c. search rules)
     (λ c. search rules)
-    (λ c. rw c.before.before.before.before.before.before.state-is.ensures))
+    (λ c. rw c.before.before.before.before.before.before.state_is.ensures))

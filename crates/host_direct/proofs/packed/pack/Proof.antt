@@ -22,4 +22,4 @@ pack_spec =
     (λ c κs. search rules)
     (λ c. simp length-set (omega arith))
     (λ c. simp length-set)
-    (λ c. rw (c.flag2.ensures, c.before.flag.ensures, c.before.before.state-number.ensures)))
+    (λ c. rw (c.flag2.ensures, c.before.flag.ensures, c.before.before.state_number.ensures)))

@@ -1,6 +1,6 @@
 -- The length and then the kind.
 use Rattle.records.specs.Bytes.{bytes}
-use Rattle.records.proofs.Laws.{stored-then}
+use Rattle.records.proofs.Laws.{stored_then}
 use borrow.Author.Rules.{rules}
 use Rattle.records.proofs.fields.put_head.Goals as goal
 
@@ -10,4 +10,4 @@ put_word-requires c = search rules
 
 pub returns : goal.returns
 unfolding bytes
-returns c = stored-then c.put_word-next.ensures c.put_word.ensures
+returns c = stored_then c.put_word-next.ensures c.put_word.ensures

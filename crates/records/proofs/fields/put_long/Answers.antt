@@ -5,7 +5,7 @@ use mathlib.Core.Path.{◌≡◌}
 use native.Mathlib.Nat.{mod-eq_of_lt}
 use native.Mathlib.Omega.{arith}
 use Rattle.records.specs.Bytes.{bytes}
-use Rattle.records.proofs.Laws.{stored-then}
+use Rattle.records.proofs.Laws.{stored_then}
 use borrow.Author.Rules.{rules}
 use Rattle.records.proofs.fields.put_long.Goals as goal
 
@@ -30,4 +30,4 @@ put_word-requires c = search rules
 
 pub returns : goal.returns
 unfolding bytes
-returns c = rw (halves c.args.v) at (stored-then c.put_word-next.ensures c.put_word.ensures)
+returns c = rw (halves c.args.v) at (stored_then c.put_word-next.ensures c.put_word.ensures)

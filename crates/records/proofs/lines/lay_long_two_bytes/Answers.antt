@@ -2,7 +2,7 @@
 use native.Mathlib.Omega.{arith}
 use Rattle.records.specs.Bytes.{bytes}
 use Rattle.records.specs.Bodies.{line_bytes}
-use Rattle.records.proofs.Laws.{stored-then}
+use Rattle.records.proofs.Laws.{stored_then}
 use Rattle.records.proofs.Writing.{no_room, all_laid}
 use borrow.Author.Rules.{rules}
 use Rattle.records.proofs.lines.lay_long_two_bytes.Goals as goal
@@ -29,4 +29,4 @@ put_byte-requires c = search rules
 
 pub returns : goal.returns
 unfolding bytes line_bytes
-returns c = all_laid _ _ _ (omega arith) (stored-then (stored-then (stored-then c.put_head-next.ensures c.put_long-next.ensures) c.put_byte-next.ensures) c.put_byte.ensures)
+returns c = all_laid _ _ _ (omega arith) (stored_then (stored_then (stored_then c.put_head-next.ensures c.put_long-next.ensures) c.put_byte-next.ensures) c.put_byte.ensures)

@@ -4,7 +4,7 @@ use mathlib.Core.Path.{refl}
 use mathlib.Core.List.{[], ◌∷◌, ◌++◌}
 use Rattle.records.specs.Messages.{messages, network_kinds, host_kinds, to_user_kinds, u_setup, u_setup_slots, u_connect, u_disconnect, u_release, u_info, u_tx_demand, u_tx_ceased, u_call_restore}
 use Rattle.records.proofs.Reading.{end, then, wrong, past}
-use Rattle.records.proofs.Slots.{none_bad, none-carried, carried-at}
+use Rattle.records.proofs.Slots.{none_bad, none_carried, carried_at}
 use Rattle.records.proofs.Rows.{under, beyond, of_two, by_number_lem, other_size, bad, good, past_kinds}
 use Rattle.records.proofs.messages.read_network.Goals as goal
 
@@ -24,7 +24,7 @@ pub returns-in_default-byte_in-2 : goal.returns-in_default-byte_in-2
 returns-in_default-byte_in-2 c = of_two messages _ u_setup u_setup_slots _ c.in-1281.is refl refl refl c.if-s-lt10.false c.if-s-gt11.false (λ w. bad messages u_setup _ w (past (rw c.in-Is.is at c.long_in.ensures) (past (rw c.in-Is-byte_in.is at c.byte_in.ensures) (wrong (rw c.in_default-byte_in-2.is at c.byte_in-in-1281.ensures))))) (λ w. bad messages u_setup_slots _ w (past (rw c.in-Is.is at c.long_in.ensures) (past (rw c.in-Is-byte_in.is at c.byte_in.ensures) (wrong (rw c.in_default-byte_in-2.is at c.byte_in-in-1281.ensures)))))
 
 pub returns-in_default-slots_in : goal.returns-in_default-slots_in
-returns-in_default-slots_in c = of_two messages _ u_setup u_setup_slots _ c.in-1281.is refl refl refl c.if-s-lt10.false c.if-s-gt11.false (λ w. absurd (none_bad _ _ (rw c.in_default-slots_in.is at c.slots_in.ensures) w)) (λ w. bad messages u_setup_slots _ w (past (rw c.in-Is.is at c.long_in.ensures) (past (rw c.in-Is-byte_in.is at c.byte_in.ensures) (past (rw c.in-Is-byte_in-2.is at c.byte_in-in-1281.ensures) (wrong (carried-at _ _ (rw c.in_default-slots_in.is at c.slots_in.ensures) w))))))
+returns-in_default-slots_in c = of_two messages _ u_setup u_setup_slots _ c.in-1281.is refl refl refl c.if-s-lt10.false c.if-s-gt11.false (λ w. absurd (none_bad _ _ (rw c.in_default-slots_in.is at c.slots_in.ensures) w)) (λ w. bad messages u_setup_slots _ w (past (rw c.in-Is.is at c.long_in.ensures) (past (rw c.in-Is-byte_in.is at c.byte_in.ensures) (past (rw c.in-Is-byte_in-2.is at c.byte_in-in-1281.ensures) (wrong (carried_at _ _ (rw c.in_default-slots_in.is at c.slots_in.ensures) w))))))
 
 pub returns-then-s-ne6 : goal.returns-then-s-ne6
 returns-then-s-ne6 c = by_number_lem messages _ u_connect _ c.in-1282.is refl refl (other_size messages u_connect _ c.if-s-ne6.true)
@@ -81,7 +81,7 @@ pub returns-in_default-byte_in-5 : goal.returns-in_default-byte_in-5
 returns-in_default-byte_in-5 c = by_number_lem messages _ u_call_restore _ c.in-1288.is refl refl (bad messages u_call_restore _ c.if-s-ne11.false (past (rw c.in-Is-word_in-7.is at c.word_in-in-1288.ensures) (past (rw c.in-Is-long_in.is at c.long_in-in-1288.ensures) (wrong (rw c.in_default-byte_in-5.is at c.byte_in-in-1288.ensures)))))
 
 pub returns-in-Is-slots_in : goal.returns-in-Is-slots_in
-returns-in-Is-slots_in c = of_two messages _ u_setup u_setup_slots _ c.in-1281.is refl refl refl c.if-s-lt10.false c.if-s-gt11.false (λ w. rw (none-carried _ _ (rw c.in-Is-slots_in.is at c.slots_in.ensures) w) (good messages u_setup _ w (then (rw c.in-Is.is at c.long_in.ensures) (then (rw c.in-Is-byte_in.is at c.byte_in.ensures) (then (rw c.in-Is-byte_in-2.is at c.byte_in-in-1281.ensures) end))) refl)) (λ w. good messages u_setup_slots _ w (then (rw c.in-Is.is at c.long_in.ensures) (then (rw c.in-Is-byte_in.is at c.byte_in.ensures) (then (rw c.in-Is-byte_in-2.is at c.byte_in-in-1281.ensures) (then (carried-at _ _ (rw c.in-Is-slots_in.is at c.slots_in.ensures) w) end)))) refl)
+returns-in-Is-slots_in c = of_two messages _ u_setup u_setup_slots _ c.in-1281.is refl refl refl c.if-s-lt10.false c.if-s-gt11.false (λ w. rw (none_carried _ _ (rw c.in-Is-slots_in.is at c.slots_in.ensures) w) (good messages u_setup _ w (then (rw c.in-Is.is at c.long_in.ensures) (then (rw c.in-Is-byte_in.is at c.byte_in.ensures) (then (rw c.in-Is-byte_in-2.is at c.byte_in-in-1281.ensures) end))) refl)) (λ w. good messages u_setup_slots _ w (then (rw c.in-Is.is at c.long_in.ensures) (then (rw c.in-Is-byte_in.is at c.byte_in.ensures) (then (rw c.in-Is-byte_in-2.is at c.byte_in-in-1281.ensures) (then (carried_at _ _ (rw c.in-Is-slots_in.is at c.slots_in.ensures) w) end)))) refl)
 
 pub returns-in-Is-word_in : goal.returns-in-Is-word_in
 returns-in-Is-word_in c = by_number_lem messages _ u_connect _ c.in-1282.is refl refl (good messages u_connect _ c.if-s-ne6.false (then (rw c.in-Is-word_in.is at c.word_in.ensures) end) refl)

@@ -1,6 +1,6 @@
 -- The fields are tested first, and then the record is stored where it fits.
 use Rattle.records.specs.Messages.{messages, message_bytes}
-use Rattle.records.proofs.Writing.{untested, tested, bytes-some, put_none, put_all}
+use Rattle.records.proofs.Writing.{untested, tested, bytes_some, put_none, put_all}
 use Rattle.records.proofs.messages.write_message.Goals as goal
 
 pub returns-then-not-message_fits : goal.returns-then-not-message_fits
@@ -9,8 +9,8 @@ returns-then-not-message_fits c = untested messages _ _ c.message_fits.ensures c
 
 pub returns-then-size-eq0 : goal.returns-then-size-eq0
 unfolding message_bytes
-returns-then-size-eq0 c = tested messages _ _ c.message_fits.ensures c.if-not-message_fits.false-raw (put_none _ _ c.lay_message-size.ensures (bytes-some _) c.if-size-eq0.true)
+returns-then-size-eq0 c = tested messages _ _ c.message_fits.ensures c.if-not-message_fits.false-raw (put_none _ _ c.lay_message-size.ensures (bytes_some _) c.if-size-eq0.true)
 
 pub returns : goal.returns
 unfolding message_bytes
-returns c = tested messages _ _ c.message_fits.ensures c.if-not-message_fits.false-raw (put_all _ _ c.lay_message-size.ensures (bytes-some _) c.if-size-eq0.false)
+returns c = tested messages _ _ c.message_fits.ensures c.if-not-message_fits.false-raw (put_all _ _ c.lay_message-size.ensures (bytes_some _) c.if-size-eq0.false)

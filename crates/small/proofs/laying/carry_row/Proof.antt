@@ -5,7 +5,7 @@ use borrow.Author.Rules.{rules}
 use lib.ListN.{length}
 use Rattle.callcontrol.specs.Settle.{settled}
 use Rattle.callcontrol.proofs.Carried.{too_long}
-use Rattle.small.proofs.Own.{own_fits, front-size, front-within, sized, carries}
+use Rattle.small.proofs.Own.{own_fits, front_size, front_within, sized, carries}
 use Rattle.small.proofs.laying.carry_row.Statement.{statement}
 use Rattle.small.proofs.laying.carry_row.Tie as tie
 
@@ -25,12 +25,12 @@ array_share_prefix_own c =
 slice_aggregate_copy : tie.Need-slice-aggregate-copy
 slice_aggregate_copy c =
     let x = c.before.before.before in
-    front-size _ _ (own_fits x.lay-all.ensures.0 x.lay-all.ensures.1.0 x.before.before.before.before.own_room.ensures)
+    front_size _ _ (own_fits x.lay-all.ensures.0 x.lay-all.ensures.1.0 x.before.before.before.before.own_room.ensures)
 
 copy_requires : tie.Need-copy-requires
 copy_requires c κs =
     let x = c.before.before.before.before in
-    front-within _ _ x.before.before.before.before.before.before.before.before.before.before.before.before.before.before.args.buffer.now (own_fits x.lay-all.ensures.0 x.lay-all.ensures.1.0 x.before.before.before.before.own_room.ensures) c.before.before.if1.false
+    front_within _ _ x.before.before.before.before.before.before.before.before.before.before.before.before.before.before.args.buffer.now (own_fits x.lay-all.ensures.0 x.lay-all.ensures.1.0 x.before.before.before.before.own_room.ensures) c.before.before.if1.false
 
 returns_2 : tie.Need-returns-2
 returns_2 c =

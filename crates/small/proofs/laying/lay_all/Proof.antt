@@ -7,10 +7,10 @@ use native.Mathlib.Omega.{arith}
 use borrow.Author.Rules.{rules}
 use lib.ListN.{length, get_or}
 use Rattle.records.specs.Bodies.{Stored}
-use Rattle.records.proofs.Laws.{stored-none}
+use Rattle.records.proofs.Laws.{stored_none}
 use Rattle.small.specs.Places.{number_in, turns, places_from, Alike}
-use Rattle.small.proofs.Letters.{same-room}
-use Rattle.small.proofs.Places.{alike_refl, alike_then, next_place, later, next-turn, same_number}
+use Rattle.small.proofs.Letters.{same_room}
+use Rattle.small.proofs.Places.{alike_refl, alike_then, next_place, later, next_turn, same_number}
 use Rattle.small.proofs.laying.lay_all.Statement.{statement}
 use Rattle.small.proofs.laying.lay_all.Tie as tie
 
@@ -38,10 +38,10 @@ loop_again c =
     let stored = rw (m.ensures.0 ∙ own) at p.ensures.0 in (
       omega arith,
       omega (arith, p.ensures.1.1),
-      same-room stored ∙ l.loop.invariant.2,
+      same_room stored ∙ l.loop.invariant.2,
       alike_then p.ensures.1.0 l.loop.invariant.3,
       λ j h. rw m.ensures.1.1 (later a.n a.code a.configure l.loop.k j l.loop.running (omega (arith, h)) ∙ l.loop.invariant.4 j (omega (arith, h))),
-      rw m.ensures.1.1 (next-turn a.n a.code a.configure l.loop.k l.loop.running (omega arith) ∙ l.loop.invariant.5),
+      rw m.ensures.1.1 (next_turn a.n a.code a.configure l.loop.k l.loop.running (omega arith) ∙ l.loop.invariant.5),
       λ end new s. l.loop.invariant.6 end new (next_place l.loop.k (number_in a.n a.code a.value a.configure a.running.now) l.loop.v a.v.now (omega arith) l.loop.invariant.3 stored s),
     )
 
@@ -53,7 +53,7 @@ unfolding places_from turns
 returns c =
     let l = c.before in
     let end : 18 - l.loop.k ≡ 0 = omega arith in
-    (l.loop.invariant.6 _ _ (rw end stored-none), (omega arith, rw end at l.loop.invariant.5))
+    (l.loop.invariant.6 _ _ (rw end stored_none), (omega arith, rw end at l.loop.invariant.5))
 
 pub lay_all_spec : {M : Type 1} → statement M
 lay_all_spec =

@@ -8,9 +8,9 @@ use borrow.Author.Rules.{rules}
 use lib.ListN.{length, get_or}
 use Rattle.records.specs.Bytes.{bytes}
 use Rattle.records.specs.Bodies.{Stored}
-use Rattle.records.proofs.Laws.{stored-none, length-bytes}
+use Rattle.records.proofs.Laws.{stored_none, length-bytes}
 use Rattle.small.specs.Entry.{width_of, spell, spelled, body}
-use Rattle.small.proofs.Letters.{no_letters, a-letter, one_letter, same-room}
+use Rattle.small.proofs.Letters.{no_letters, a_letter, one_letter, same_room}
 use Rattle.small.proofs.laying.lay_body.Statement.{statement}
 use Rattle.small.proofs.laying.lay_body.Tie as tie
 
@@ -28,7 +28,7 @@ loop_holds c = (omega arith, omega arith, refl, search rules, λ end new s. s)
 element_copy_out_put : tie.Need-element-copy-out-put invariant_loop decreases_loop
 element_copy_out_put c =
     let l = c.before.before in
-    (a-letter l.loop.left l.loop.invariant.0 (omega arith) l.loop.invariant.3).0
+    (a_letter l.loop.left l.loop.invariant.0 (omega arith) l.loop.invariant.3).0
 
 put_requires : tie.Need-put-requires invariant_loop decreases_loop
 put_requires c κs = (omega arith, c.width_of_lem.ensures.1)
@@ -44,8 +44,8 @@ loop_again c =
     rw w.ensures.0 at p.ensures in (
       omega arith,
       omega (arith, p.ensures.end, length-bytes w.result (get_or a.v.now (l.loop.left % 16) 0), w.ensures.1),
-      same-room stored ∙ l.loop.invariant.2,
-      (a-letter l.loop.left l.loop.invariant.0 some l.loop.invariant.3).1,
+      same_room stored ∙ l.loop.invariant.2,
+      (a_letter l.loop.left l.loop.invariant.0 some l.loop.invariant.3).1,
       λ end new s. l.loop.invariant.4 end new (one_letter l.loop.left a.v.now l.loop.invariant.0 some stored s),
     )
 
@@ -57,7 +57,7 @@ unfolding body
 returns c =
     let l = c.before in
     let none : l.loop.left ≡ 0 = omega arith in
-    l.loop.invariant.4 _ _ (rw (no_letters 4 l.loop.left none) stored-none)
+    l.loop.invariant.4 _ _ (rw (no_letters 4 l.loop.left none) stored_none)
 
 pub lay_body_spec : {M : Type 1} → statement M
 lay_body_spec =

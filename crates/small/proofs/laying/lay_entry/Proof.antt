@@ -2,7 +2,7 @@
 use Prim.Native.Nat.{◌+◌, ◌*◌, ◌/◌, ◌%◌}
 use native.Mathlib.Omega.{arith}
 use borrow.Author.Rules.{rules}
-use Rattle.records.proofs.Laws.{length-bytes, stored-then}
+use Rattle.records.proofs.Laws.{length-bytes, stored_then}
 use Rattle.small.specs.Entry.{entry_bytes}
 use Rattle.small.proofs.laying.lay_entry.Statement.{statement}
 use Rattle.small.proofs.laying.lay_entry.Tie as tie
@@ -15,7 +15,7 @@ lay_body_requires c κs =
 
 returns : tie.Need-returns
 unfolding entry_bytes
-returns c = stored-then c.before.before.before.before.before.before.put.ensures c.before.before.lay-body.ensures
+returns c = stored_then c.before.before.before.before.before.before.put.ensures c.before.before.lay-body.ensures
 
 pub lay_entry_spec : {M : Type 1} → statement M
 lay_entry_spec =

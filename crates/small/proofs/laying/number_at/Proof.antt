@@ -26,7 +26,7 @@ number_at_spec =
     (λ c κs. search rules)
     (λ c.
     let s = c.before.before.before.before in
-    (rw (ne_eqb _ _ s.before.before.if1.false, ne_eqb _ _ s.before.if2.false, lt-ltb _ _ s.if3.true, c.when2.ensures.0, c.before.starts-at.ensures, c.before.before.ordered.ensures, c.before.before.before.tells-plane.ensures) refl, omega (arith, c.when2.ensures.1)))
+    (rw (ne_eqb _ _ s.before.before.if1.false, ne_eqb _ _ s.before.if2.false, lt-ltb _ _ s.if3.true, c.when2.ensures.0, c.before.starts-at.ensures, c.before.before.ordered.ensures, c.before.before.before.tells_plane.ensures) refl, omega (arith, c.when2.ensures.1)))
     (λ c κs. search rules)
     (λ c.
     let s = c.before.before in

@@ -14,7 +14,7 @@ returns c =
     let stop_bit = c.before.before.before.before.ordered2.ensures in
     let start = c.before.before.before.before.before.starts-at.ensures in
     let start_bit = c.before.before.before.before.before.before.ordered.ensures in
-    let told = c.before.before.before.before.before.before.before.tells-plane.ensures in
+    let told = c.before.before.before.before.before.before.before.tells_plane.ensures in
     (rw (c.when.ensures.0, ran, stop, stop_bit, start, start_bit, told) refl, (omega (arith, c.when.ensures.1), rw (ran, stop, stop_bit, start, start_bit, told) refl))
 
 pub turn_spec : {M : Type 1} → statement M

@@ -8,7 +8,7 @@ use lib.ListN.{length, get_or}
 use Rattle.small.specs.Entry.{spell}
 use Rattle.small.proofs.Letters.{no_letters}
 use Rattle.small.specs.Reading.{letters, slot_in, fill, total, caps, Under}
-use Rattle.small.proofs.Slots.{a-letter, under-set, fill-first, total_first, too_low, too_high, in_range_lem}
+use Rattle.small.proofs.Slots.{a_letter, under_set, fill_first, total_first, too_low, too_high, in_range_lem}
 use Rattle.small.proofs.reading.fill.Statement.{statement}
 use Rattle.small.proofs.reading.fill.Tie as tie
 
@@ -25,7 +25,7 @@ loop_holds c = (c.before.requires.0, omega arith, c.before.requires.1, c.before.
 number_at_requires : tie.Need-number-at-requires invariant_loop decreases_loop
 number_at_requires c κs =
     let l = c.before in
-    let k = a-letter (l.loop.left % 16) (omega arith) in
+    let k = a_letter (l.loop.left % 16) (omega arith) in
     let t = total_first l.loop.left l.loop.invariant.0 (omega arith) in
     (k.some, k.few, k.even, omega (arith, t, l.loop.invariant.2), l.before.before.requires.2)
 
@@ -39,7 +39,7 @@ returns c =
     let n = c.before.number_at in
     let e = get_or letters (l.loop.left % 16) 0 in (
       too_low e l.loop.v a.s.now l.loop.at n.result _ n.ensures l.loop.invariant.1 c.if1.true
-          ∙ sym (fill-first l.loop.left l.loop.v a.s.now l.loop.at l.loop.invariant.0 (omega arith))
+          ∙ sym (fill_first l.loop.left l.loop.v a.s.now l.loop.at l.loop.invariant.0 (omega arith))
           ∙ l.loop.invariant.4,
       l.loop.invariant.3,
     )
@@ -54,13 +54,13 @@ returns_2 c =
     let n = c.before.before.number_at in
     let e = get_or letters (l.loop.left % 16) 0 in (
       too_high e l.loop.v a.s.now l.loop.at n.result _ n.ensures l.loop.invariant.1 c.before.if1.false c.if2.true
-          ∙ sym (fill-first l.loop.left l.loop.v a.s.now l.loop.at l.loop.invariant.0 (omega arith))
+          ∙ sym (fill_first l.loop.left l.loop.v a.s.now l.loop.at l.loop.invariant.0 (omega arith))
           ∙ l.loop.invariant.4,
       l.loop.invariant.3,
     )
 
 add_at : tie.Need-overflow-add-at invariant_loop decreases_loop
-add_at c = omega (arith, (a-letter (c.before.before.before.before.loop.left % 16) (omega arith)).few)
+add_at c = omega (arith, (a_letter (c.before.before.before.before.loop.left % 16) (omega arith)).few)
 
 loop_again : tie.Need-loop-preserved invariant_loop decreases_loop
 loop_again c =
@@ -68,16 +68,16 @@ loop_again c =
     let a = l.before.before.args in
     let n = c.before.before.number_at in
     let e = get_or letters (l.loop.left % 16) 0 in
-    let k = a-letter (l.loop.left % 16) (omega arith) in
+    let k = a_letter (l.loop.left % 16) (omega arith) in
     let some : 0 < l.loop.left = omega arith in
     let t = total_first l.loop.left l.loop.invariant.0 some in
     let room : n.result ≤ get_or caps (slot_in e) 0 = le_trans c.if2.false k.room in (
       omega arith,
       omega arith,
       omega (arith, t, l.loop.invariant.2),
-      under-set l.loop.v caps l.loop.invariant.3 (slot_in e) n.result room,
+      under_set l.loop.v caps l.loop.invariant.3 (slot_in e) n.result room,
       sym (in_range_lem e l.loop.v a.s.now l.loop.at n.result (λ w next. fill (spell 5 (l.loop.left / 16)) w a.s.now next) n.ensures c.before.if1.false c.if2.false)
-          ∙ sym (fill-first l.loop.left l.loop.v a.s.now l.loop.at l.loop.invariant.0 some)
+          ∙ sym (fill_first l.loop.left l.loop.v a.s.now l.loop.at l.loop.invariant.0 some)
           ∙ l.loop.invariant.4,
     )
 
@@ -105,8 +105,8 @@ fill_spec =
     cast_result_2
     returns_2
     (λ c. search rules)
-    (λ c. search (rules, (a-letter (c.before.before.before.before.loop.left % 16) (omega arith)).place))
-    (λ c. search (rules, (a-letter (c.before.before.before.before.loop.left % 16) (omega arith)).place))
+    (λ c. search (rules, (a_letter (c.before.before.before.before.loop.left % 16) (omega arith)).place))
+    (λ c. search (rules, (a_letter (c.before.before.before.before.loop.left % 16) (omega arith)).place))
     add_at
     (λ c. omega arith)
     loop_again

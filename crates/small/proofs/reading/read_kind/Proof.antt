@@ -3,13 +3,13 @@ use Prim.Native.Nat.{◌+◌, ◌%◌}
 use mathlib.Core.Path.{◌≡◌, refl, ◌∙◌}
 use borrow.Author.Rules.{rules}
 use Rattle.small.specs.Reading.{place_of}
-use Rattle.small.proofs.Answers.{retired-kind, too_far, other_kind, its_kind, sized}
+use Rattle.small.proofs.Answers.{retired_kind, too_far, other_kind, its_kind, sized}
 use Rattle.small.proofs.Entries.{not_first}
 use Rattle.small.proofs.reading.read_kind.Statement.{statement}
 use Rattle.small.proofs.reading.read_kind.Tie as tie
 
 returns : tie.Need-returns
-returns c = retired-kind _ _ _ c.if1.true
+returns c = retired_kind _ _ _ c.if1.true
 
 returns_2 : tie.Need-returns-2
 unfolding place_of

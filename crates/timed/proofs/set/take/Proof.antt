@@ -6,7 +6,7 @@ use borrow.Author.Rules.{rules}
 use Rattle.callcontrol.specs.Step.{answer_number}
 use Rattle.callcontrol.specs.Rows.{row_for}
 use Rattle.callcontrol.specs.Writing.{messages_in}
-use Rattle.timed.proofs.Taking.{not_taken, refused-event, wrote, fits_in, taken-event}
+use Rattle.timed.proofs.Taking.{not_taken, refused_event, wrote, fits_in, taken_event}
 use Rattle.timed.proofs.set.take.Statement.{statement}
 use Rattle.timed.proofs.set.take.Tie as tie
 
@@ -18,7 +18,7 @@ returns : tie.Need-returns
 returns c =
     let d = c.before.before.before.before.before.before.decide in
     rw (c.refuse.ensures, c.before.answer-number.ensures.0)
-    (refused-event _ _ _ _ _ _ _ d.result d.ensures (not_taken d.result.answer c.before.before.match.keys2))
+    (refused_event _ _ _ _ _ _ _ d.result d.ensures (not_taken d.result.answer c.before.before.match.keys2))
 
 prefix : tie.Need-slice-reshare-prefix-start-all
 prefix c =
@@ -42,7 +42,7 @@ returns_2 : tie.Need-returns-2
 returns_2 c =
     let d = c.before.before.before.before.before.before.before.before.before.decide in
     let s = c.before.before.before.before.before.before.before.before.before.before.before.before.before.before in
-    taken-event _ _ _ _ _ _ _ _ _ d.result s.requires.0 (seven s) s.requires.1 d.ensures (ap answer_number c.before.before.before.before.enum_told.given.1) c.before.before.start-all.ensures c.with-flags.ensures
+    taken_event _ _ _ _ _ _ _ _ _ d.result s.requires.0 (seven s) s.requires.1 d.ensures (ap answer_number c.before.before.before.before.enum_told.given.1) c.before.before.start-all.ensures c.with-flags.ensures
 
 pub take_spec : {M : Type 1} → statement M
 take_spec =

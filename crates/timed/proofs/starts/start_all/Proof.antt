@@ -3,7 +3,7 @@ use Prim.Native.Nat.{◌+◌, ◌-◌, ◌≤◌, ◌<◌}
 use lib.ListN.{length}
 use borrow.Author.Rules.{rules}
 use native.Mathlib.Omega.{arith}
-use Rattle.timed.proofs.Fronts.{Going, begun, begins-at, front-two, goes_on, within, shorter, all_done}
+use Rattle.timed.proofs.Fronts.{Going, begun, begins_at, front_two, goes_on, within, shorter, all_done}
 use Rattle.timed.proofs.starts.start_all.Statement.{statement}
 use Rattle.timed.proofs.starts.start_all.Tie as tie
 
@@ -20,7 +20,7 @@ inside c =
     let l = c.before.before.before.before in
     let s = c.before.before.before.before.before.before.before in
     let t = c.before.before.before.loop-test.true in
-    within s.args.written.now l.loop.at c.word_at.result t (begins-at s.args.lengths.now s.args.written.now _ _ l.loop.at t s.requires l.loop.invariant.1) c.word_at.ensures
+    within s.args.written.now l.loop.at c.word_at.result t (begins_at s.args.lengths.now s.args.written.now _ _ l.loop.at t s.requires l.loop.invariant.1) c.word_at.ensures
 
 add_at : tie.Need-overflow-add-at invariant_loop decreases_loop
 add_at c = let w : c.before.before.before.before.loop.at + c.word_at.result ≤ length c.before.before.before.before.before.before.before.args.written.now = (inside c).0 in search rules
@@ -43,8 +43,8 @@ start_all_spec =
     (λ c. c.before.loop.invariant.0)
     (λ c. c.before.loop.invariant.0)
     (λ c. search rules)
-    (λ c κs. begins-at _ _ _ _ _ c.before.loop-test.true c.before.before.before.before.before.requires c.before.before.loop.invariant.1)
-    (λ c κs. front-two _ (begins-at _ _ _ _ _ c.before.before.loop-test.true c.before.before.before.before.before.before.requires c.before.before.before.loop.invariant.1))
+    (λ c κs. begins_at _ _ _ _ _ c.before.loop-test.true c.before.before.before.before.before.requires c.before.before.loop.invariant.1)
+    (λ c κs. front_two _ (begins_at _ _ _ _ _ c.before.before.loop-test.true c.before.before.before.before.before.before.requires c.before.before.before.loop.invariant.1))
     (λ c. search rules)
     add_at
     (λ c. shorter _ _ _ c.before.before.before.loop-test.true (inside c).1)

@@ -2,7 +2,7 @@
 -- came in.
 use Rattle.std.proofs.Common.{◌≡◌, ℕ, suc, ◌+◌, ◌-◌, ◌<◌, ◌≤◌, List, [], ◌∷◌, ◌++◌, length, take, drop, set, sym, refl, ap, ◌∙◌, append-nil, arith, length-set, take-append-drop, rules}
 use Rattle.timers.specs.Due.{handed, below, number_of}
-use Rattle.timers.proofs.Handing.{one_more, later-stay}
+use Rattle.timers.proofs.Handing.{one_more, later_stay}
 use Rattle.timers.proofs.due.give_out.Goals as goal
 
 pub loop-i-init : goal.loop-i-init
@@ -30,7 +30,7 @@ loop-i-preserved c =
       rw length-set c.loop-i.invariant.1,
       rw length-set c.loop-i.invariant.2,
       rw (c.number_of.ensures, c.below-key.ensures, one_more (n - (i + 1)) i c.loop-i.bound due c.args.pairs) (rw rest at c.loop-i.invariant.3),
-      later-stay i c.number_of.result due c.args.due.now c.loop-i.invariant.4,
+      later_stay i c.number_of.result due c.args.due.now c.loop-i.invariant.4,
     )
 
 pub returns : goal.returns

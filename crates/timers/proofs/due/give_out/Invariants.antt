@@ -2,7 +2,7 @@
 -- came in.
 use Rattle.std.proofs.Common.{◌≡◌, ℕ, suc, ◌+◌, ◌-◌, ◌<◌, ◌≤◌, List, [], ◌∷◌, ◌++◌, length, take, drop, set, sym, refl, ap, ◌∙◌, append-nil, arith, length-set, take-append-drop, rules}
 use Rattle.timers.specs.Due.{handed, below, number_of}
-use Rattle.timers.proofs.Handing.{one_more, later-stay}
+use Rattle.timers.proofs.Handing.{one_more, later_stay}
 use Rattle.timers.proofs.due.give_out.Given as goal
 
 abbrev pub invariant-loop-i : goal.invariant-loop-i

@@ -1,7 +1,7 @@
 -- 1, 31 and 32; then the expiry of the first timer due, or the reading alone.
 use borrow.Author.Rules.{rules}
 use Rattle.timed.specs.Entries.{due_of}
-use Rattle.timed.proofs.Answering.{accepting, not_ready_lem, is-sound, readable, expired, quiet}
+use Rattle.timed.proofs.Answering.{accepting, not_ready_lem, is_sound, readable, expired, quiet}
 use Rattle.timed.proofs.set.Timed.due.Statement.{statement}
 use Rattle.timed.proofs.set.Timed.due.Tie as tie
 
@@ -15,7 +15,7 @@ take_requires : tie.Need-take-requires
 take_requires c κs =
     let r = c.before.before.before.before.before.before.ready in
     let a = accepting _ _ _ r.result r.ensures c.before.before.before.if1.false in
-    (is-sound _ _ _ a, readable _ _ _ _ a c.before.if2.true)
+    (is_sound _ _ _ a, readable _ _ _ _ a c.before.if2.true)
 
 returns_2 : tie.Need-returns-2
 returns_2 c =

@@ -1,0 +1,15 @@
+-- The messages are measured, and laid one after the other where they fit.
+use mathlib.Core.Path.{refl}
+use Rattle.records.specs.Bodies.{flat_size}
+use Rattle.direct.specs.Messages.{message_size, sizes_of}
+use Rattle.direct.specs.Rows.{released}
+use Rattle.direct.proofs.Carried.{end, then, no_room, carried_out}
+use Rattle.direct.proofs.step.release.Goals as goal
+
+pub returns-then-buffer-lt14 : goal.returns-then-buffer-lt14
+unfolding released sizes_of message_size flat_size
+returns-then-buffer-lt14 c = rw c.refuse.ensures (no_room _ _ _ refl c.if-buffer-lt14.true)
+
+pub returns : goal.returns
+unfolding released sizes_of message_size flat_size
+returns c = rw c.fresh.ensures (carried_out _ _ _ refl c.if-buffer-lt14.false (then c.lay_stop.ensures (then c.lay_dm_release.ensures (then c.lay_release_indication.ensures end))))
