@@ -27,7 +27,7 @@ use Rattle.callcontrol.proofs.Verbs.{verbs}
 use Rattle.demands.specs.Runs.{Turn, outcome, next, run, written_by, written_in, every?}
 use Rattle.demands.specs.Demands.{Kept}
 use Rattle.demands.proofs.ByRow.{Row, Cell, cell, row, no_row_lem}
-use Rattle.demands.proofs.Cases.{by_plane, by_restart, by_grant, by_grant_or_off}
+use Rattle.demands.proofs.Cases.{by_plane_each, by_restart, by_grant, by_grant_or_off}
 use Rattle.demands.proofs.Demands.{step_in_range, step_keeps_sound}
 use Rattle.demands.proofs.Facts.{and, left, right}
 use Rattle.demands.proofs.ReadsBack.{read_after_read, stored}
@@ -92,7 +92,7 @@ plain_writes x p =
 module _ (x : Draft) (h : UnnamedIn x.pdu) where
   plane_pdu : (n : ℕ) → UnnamedIn (plane n x).pdu
   unfolding verbs
-  plane_pdu n = by_plane (λ y. UnnamedIn y.pdu) n x (λ b. elim b [ true ↦ h | false ↦ h ])
+  plane_pdu n = by_plane_each (λ y. UnnamedIn y.pdu) n x h h
 
   restart_pdu : (r o : ℕ) → UnnamedIn (restart r o x).pdu
   unfolding verbs

@@ -106,8 +106,10 @@ Special n State.CallDisconnect c = Closes n c
 
 interrupts : {c : Call} (b : Bool) → At State.CallActive Path.Up c → Within 27 (draft c ▷ plane (cond b 2 4) ▷ tell (TxIndication 5))
 unfolding sizes
-interrupts true (up {t₁₁} l p m) = elim t₁₁ [ true ↦ refl | false ↦ refl ]
-interrupts false (up {t₁₁} l p m) = elim t₁₁ [ true ↦ refl | false ↦ refl ]
+interrupts true (up {t₁₁ = true} l p m) = refl
+interrupts true (up {t₁₁ = false} l p m) = refl
+interrupts false (up {t₁₁ = true} l p m) = refl
+interrupts false (up {t₁₁ = false} l p m) = refl
 
 continuing : {c : Call} {w : Path} (b : Bool) → At State.Wait w c
     → Within 27 (tell (TxIndication 7) (cond b (start T311) (stop T311) (same_plane (on_plane c.kept (go State.CallActive (draft c))))))
@@ -131,13 +133,17 @@ module _ (n : ℕ) (enough : 27 ≤ n) where
   within ends (Row.calls a d q zero) idle h = more _ refl
   within ends (Row.calls a d q (suc s)) idle h = more _ refl
   within ends (Row.is_called i a d) idle h = more _ refl
-  within ends (Row.takes_back z) (mo {t₃} m) h = more _ (elim t₃ [ true ↦ refl | false ↦ refl ])
+  within ends (Row.takes_back z) (mo {t₃ = true} m) h = more _ refl
+  within ends (Row.takes_back z) (mo {t₃ = false} m) h = more _ refl
   within ends (Row.releases_sent z) v h = ends.releasing
-  within ends (Row.proceeds i) (mo {t₃} m) h = more _ (elim t₃ [ true ↦ refl | false ↦ refl ])
-  within ends (Row.alerts i) (mo {t₃} m) h = more _ (elim t₃ [ true ↦ refl | false ↦ refl ])
+  within ends (Row.proceeds i) (mo {t₃ = true} m) h = more _ refl
+  within ends (Row.proceeds i) (mo {t₃ = false} m) h = more _ refl
+  within ends (Row.alerts i) (mo {t₃ = true} m) h = more _ refl
+  within ends (Row.alerts i) (mo {t₃ = false} m) h = more _ refl
   within ends (Row.connects i g d o s) v h = h i g d o s
   within ends (Row.sent z) v h = more _ refl
-  within ends (Row.unsent z) (mo {t₃} m) h = more _ (elim t₃ [ true ↦ refl | false ↦ refl ])
+  within ends (Row.unsent z) (mo {t₃ = true} m) h = more _ refl
+  within ends (Row.unsent z) (mo {t₃ = false} m) h = more _ refl
   within ends (Row.answers z) v h = more _ refl
   within {c} ends (Row.completes i g o z) (mt {t₁ = true} {t₁₀ = true} l m) h =
       more _ (by_start310 (λ x. Within 27 (tell (Complete g) (grant_or_off g x))) (completing o c) (by_grant_or_off (λ x. Within 27 (tell (Complete g) x)) g _ refl refl refl refl refl refl refl)
@@ -147,7 +153,8 @@ module _ (n : ℕ) (enough : 27 ≤ n) where
       (by_grant_or_off (λ x. Within 27 (tell (Complete g) x)) g _ refl refl refl refl refl refl refl))
   within ends (Row.completes i g o z) (mt {t₁ = false} l m) h = apart z refl
   within ends (Row.asks_to_send k z y) v h = more _ refl
-  within ends (Row.stops_sending k z y) (up {t₁₁} l p m) h = more _ (elim t₁₁ [ true ↦ refl | false ↦ refl ])
+  within ends (Row.stops_sending k z y) (up {t₁₁ = true} l p m) h = more _ refl
+  within ends (Row.stops_sending k z y) (up {t₁₁ = false} l p m) h = more _ refl
   within ends (Row.asks_no_more k z y x) v h = more _ refl
   within ends (Row.same_mode i r o d s z) (up {t₁₀ = true} l p m) h = more _ (by_restart (λ x. Within 27 (tell_modified d (same_plane (store_slots s x)))) r o _ refl refl refl)
   within ends (Row.same_mode i r o d s z) (up {t₁₀ = false} l p m) h = more _ (by_restart (λ x. Within 27 (tell_modified d (same_plane (store_slots s x)))) r o _ refl refl refl)
@@ -157,11 +164,15 @@ module _ (n : ℕ) (enough : 27 ≤ n) where
   within ends (Row.new_mode i r o d s z) (up {t₁₀ = false} {t₁₁ = false} l p m) h = more _ (by_restart (λ x. Within 27 (tell_modified d (off (store_slots s (store_mode d x))))) r o _ refl refl refl)
   within ends (Row.granted i g) (up {t₁₁ = true} l p m) h = more _ (by_grant (λ x. Within 27 (tell (TxIndication g) x)) g _ refl refl refl refl refl)
   within ends (Row.granted i g) (up {t₁₁ = false} l p m) h = more _ (by_grant (λ x. Within 27 (tell (TxIndication g) x)) g _ refl refl refl refl refl)
-  within ends (Row.ceased i) (up {t₁₁} l p m) h = more _ (elim t₁₁ [ true ↦ refl | false ↦ refl ])
+  within ends (Row.ceased i) (up {t₁₁ = true} l p m) h = more _ refl
+  within ends (Row.ceased i) (up {t₁₁ = false} l p m) h = more _ refl
   within ends (Row.interrupted i g) v h = more _ (interrupts (eqb g 3) v)
-  within ends (Row.pauses i) (up {t₁₁} l p m) h = more _ (elim t₁₁ [ true ↦ refl | false ↦ refl ])
-  within ends Row.breaks (up {t₁₁} l p m) h = more _ (elim t₁₁ [ true ↦ refl | false ↦ refl ])
-  within ends (Row.talked_out k z y) (up {t₁₁} l p m) h = more _ (elim t₁₁ [ true ↦ refl | false ↦ refl ])
+  within ends (Row.pauses i) (up {t₁₁ = true} l p m) h = more _ refl
+  within ends (Row.pauses i) (up {t₁₁ = false} l p m) h = more _ refl
+  within ends Row.breaks (up {t₁₁ = true} l p m) h = more _ refl
+  within ends Row.breaks (up {t₁₁ = false} l p m) h = more _ refl
+  within ends (Row.talked_out k z y) (up {t₁₁ = true} l p m) h = more _ refl
+  within ends (Row.talked_out k z y) (up {t₁₁ = false} l p m) h = more _ refl
   within ends (Row.wants k z) v h = more _ refl
   within ends Row.resumes (broken l m) h = more _ refl
   within ends (Row.restored i g r o) (restoring {t₁₀ = true} l m) h =

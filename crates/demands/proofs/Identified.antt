@@ -21,7 +21,7 @@ use Rattle.demands.specs.History.{note_id, reads_id, id_by_history}
 use Rattle.demands.specs.Demands.{Kept, Identified, Transmits, NoInfoOverSpeech}
 use Rattle.demands.proofs.Facts.{apart}
 use Rattle.demands.proofs.ByRow.{Live, calling, called, talking, waiting, Row, is_row}
-use Rattle.demands.proofs.Cases.{by_plane, by_restart, by_grant, by_grant_or_off}
+use Rattle.demands.proofs.Cases.{by_plane_each, by_restart, by_grant, by_grant_or_off}
 use Rattle.demands.proofs.Situations.{At, idle, situated}
 use Rattle.demands.proofs.Turns.{Turned, passed, took, turned, accepts}
 use Rattle.demands.proofs.Sound.{fresh_is_sound, step_keeps_sound, always}
@@ -33,7 +33,7 @@ use Rattle.demands.proofs.Told.{told_is_plane}
 module _ (x : Draft) where
   plane_id : (p : ℕ) → (plane p x).call.id ≡ x.call.id
   unfolding verbs
-  plane_id p = by_plane (λ y. y.call.id ≡ x.call.id) p x (λ b. elim b [ true ↦ refl | false ↦ refl ])
+  plane_id p = by_plane_each (λ y. y.call.id ≡ x.call.id) p x refl refl
 
   restart_id : (r o : ℕ) → (restart r o x).call.id ≡ x.call.id
   unfolding verbs

@@ -22,7 +22,7 @@ use Rattle.demands.specs.Runs.{Turn, outcome, next, run, written_by, written_in,
 use Rattle.demands.specs.Demands.{Kept, count, one_call, OneUDisconnect, OneURelease}
 use Rattle.demands.proofs.Facts.{apart, left, right, is_not}
 use Rattle.demands.proofs.ByRow.{Live, calling, called, talking, waiting, Row, is_row}
-use Rattle.demands.proofs.Cases.{by_plane, by_restart, by_grant, by_grant_or_off}
+use Rattle.demands.proofs.Cases.{by_plane_each, by_restart, by_grant, by_grant_or_off}
 use Rattle.demands.proofs.Situations.{At, disconnect, situated}
 use Rattle.demands.proofs.Sound.{step_keeps_sound, always}
 use Rattle.demands.proofs.Turns.{Turned, passed, took, turned}
@@ -86,7 +86,7 @@ data Sends (s : State) (x : Draft) : Type 0 where
 module _ (x : Draft) (h : x.pdu ≡ Slot.Empty) where
   silent_plane : (n : ℕ) → (plane n x).pdu ≡ Slot.Empty
   unfolding verbs
-  silent_plane n = by_plane (λ y. y.pdu ≡ Slot.Empty) n x (λ b. elim b [ true ↦ h | false ↦ h ])
+  silent_plane n = by_plane_each (λ y. y.pdu ≡ Slot.Empty) n x h h
 
   silent_restart : (r o : ℕ) → (restart r o x).pdu ≡ Slot.Empty
   unfolding verbs

@@ -20,7 +20,7 @@ use Rattle.demands.specs.History.{slots_in, or_before, note_slots, reads_slots, 
 use Rattle.demands.specs.Demands.{Kept, Slotted, OneSlot, EndedOneSlot}
 use Rattle.demands.proofs.Facts.{apart, left, right}
 use Rattle.demands.proofs.ByRow.{Live, calling, called, talking, waiting, Row, is_row}
-use Rattle.demands.proofs.Cases.{by_plane, by_restart, by_grant, by_grant_or_off}
+use Rattle.demands.proofs.Cases.{by_plane_each, by_restart, by_grant, by_grant_or_off}
 use Rattle.demands.proofs.Situations.{At, idle, situated}
 use Rattle.demands.proofs.Turns.{Turned, passed, took, turned, run-append}
 use Rattle.demands.proofs.Sound.{fresh_is_sound, step_keeps_sound, always}
@@ -31,7 +31,7 @@ use Rattle.demands.proofs.Ended.{ended, idle_is_fresh}
 module _ (x : Draft) where
   plane_slots : (p : ℕ) → (plane p x).call.slots ≡ x.call.slots
   unfolding verbs
-  plane_slots p = by_plane (λ y. y.call.slots ≡ x.call.slots) p x (λ b. elim b [ true ↦ refl | false ↦ refl ])
+  plane_slots p = by_plane_each (λ y. y.call.slots ≡ x.call.slots) p x refl refl
 
   restart_slots : (r o : ℕ) → (restart r o x).call.slots ≡ x.call.slots
   unfolding verbs

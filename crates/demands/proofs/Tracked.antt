@@ -88,8 +88,10 @@ tracks_lapsed {n = n} (t310 e) f = rw (eqb-true n 310 e) f.lapsed_310
 
 interrupts : {c : Call} (b : Bool) → Timed State.CallActive Path.Up c → Tracks c.timers (draft c ▷ plane (cond b 2 4) ▷ tell (TxIndication 5))
 unfolding flagged
-interrupts true (up {t}) = elim t [ true ↦ by refl | false ↦ by refl ]
-interrupts false (up {t}) = elim t [ true ↦ by refl | false ↦ by refl ]
+interrupts true (up {t = true}) = by refl
+interrupts true (up {t = false}) = by refl
+interrupts false (up {t = true}) = by refl
+interrupts false (up {t = false}) = by refl
 
 continuing : {c : Call} {w : Path} (b : Bool) → Timed State.Wait w c
     → Tracks c.timers (tell (TxIndication 7) (cond b (start T311) (stop T311) (same_plane (on_plane c.kept (go State.CallActive (draft c))))))
@@ -102,7 +104,8 @@ continues {c} v = by_plane (λ x. Tracks c.timers (tell (TxIndication 7) x)) c.k
 
 talked : {c : Call} → Timed State.CallActive Path.Up c → Tracks (note_expiry c.timers (Expiry 311)) (draft c ▷ expired T311 ▷ say (UTxCeased c.id) ▷ off)
 unfolding flagged
-talked (up {t}) = elim t [ true ↦ by refl | false ↦ by refl ]
+talked (up {t = true}) = by refl
+talked (up {t = false}) = by refl
 
 talked_out : {c : Call} (n : ℕ) → eqb n 311 ≡ true → Timed State.CallActive Path.Up c
     → Tracks (note_expiry c.timers (Expiry n)) (draft c ▷ expired T311 ▷ say (UTxCeased c.id) ▷ off)
@@ -162,8 +165,10 @@ tracks (Row.is_called i a d) idle = by refl
 tracks (Row.takes_back z) (mo {t = true} h) = apart z h
 tracks (Row.takes_back z) (mo {t = false} h) = by refl
 tracks (Row.releases_sent z) v = (shares 0 (few v)).releasing
-tracks (Row.proceeds i) (mo {t} h) = elim t [ true ↦ by refl | false ↦ by refl ]
-tracks (Row.alerts i) (mo {t} h) = elim t [ true ↦ by refl | false ↦ by refl ]
+tracks (Row.proceeds i) (mo {t = true} h) = by refl
+tracks (Row.proceeds i) (mo {t = false} h) = by refl
+tracks (Row.alerts i) (mo {t = true} h) = by refl
+tracks (Row.alerts i) (mo {t = false} h) = by refl
 tracks {c} (Row.connects i g d o s) (mo {t = true} h) =
     by_start310 (λ x. Tracks with_302 (tell (SetupConfirm i g) (grant_or_off g x))) (draft c ▷ store_id i ▷ store_mode d ▷ store_code o ▷ store_slots s ▷ store_sent 1 ▷ go State.CallActive ▷ stop T302 ▷ stop T303)
     (by_grant_or_off (λ x. Tracks with_302 (tell (SetupConfirm i g) x)) g (limited_as false (draft c ▷ store_id i ▷ store_mode d ▷ store_code o ▷ store_slots s ▷ store_sent 1 ▷ go State.CallActive ▷ stop T302 ▷ stop T303)) (by refl) (by refl) (by refl) (by refl) (by refl) (by refl) (by refl))
@@ -172,7 +177,8 @@ tracks {c} (Row.connects i g d o s) (mo {t = false} h) =
     by_start310 (λ x. Tracks with_303 (tell (SetupConfirm i g) (grant_or_off g x))) (draft c ▷ store_id i ▷ store_mode d ▷ store_code o ▷ store_slots s ▷ store_sent 1 ▷ go State.CallActive ▷ stop T302 ▷ stop T303)
     (by_grant_or_off (λ x. Tracks with_303 (tell (SetupConfirm i g) x)) g (limited_as false (draft c ▷ store_id i ▷ store_mode d ▷ store_code o ▷ store_slots s ▷ store_sent 1 ▷ go State.CallActive ▷ stop T302 ▷ stop T303)) (by refl) (by refl) (by refl) (by refl) (by refl) (by refl) (by refl))
     (by_grant_or_off (λ x. Tracks with_303 (tell (SetupConfirm i g) x)) g (limited_as true (draft c ▷ store_id i ▷ store_mode d ▷ store_code o ▷ store_slots s ▷ store_sent 1 ▷ go State.CallActive ▷ stop T302 ▷ stop T303)) (by refl) (by refl) (by refl) (by refl) (by refl) (by refl) (by refl))
-tracks (Row.sent z) (mo {t} h) = elim t [ true ↦ by refl | false ↦ by refl ]
+tracks (Row.sent z) (mo {t = true} h) = by refl
+tracks (Row.sent z) (mo {t = false} h) = by refl
 tracks (Row.unsent z) (mo {t = true} h) = apart z h
 tracks (Row.unsent z) (mo {t = false} h) = by refl
 tracks (Row.answers z) mt = by refl
@@ -185,16 +191,20 @@ tracks {c} (Row.completes i g o z) (mt {t = false}) =
     (by_grant_or_off (λ x. Tracks (false ∷ false ∷ false ∷ false ∷ false ∷ false ∷ false ∷ []) (tell (Complete g) x)) g (limited_as false (draft c ▷ store_code o ▷ go State.CallActive ▷ stop T301)) (by refl) (by refl) (by refl) (by refl) (by refl) (by refl) (by refl))
     (by_grant_or_off (λ x. Tracks (false ∷ false ∷ false ∷ false ∷ false ∷ false ∷ false ∷ []) (tell (Complete g) x)) g (limited_as true (draft c ▷ store_code o ▷ go State.CallActive ▷ stop T301)) (by refl) (by refl) (by refl) (by refl) (by refl) (by refl) (by refl))
 tracks (Row.asks_to_send k z y) up = by refl
-tracks (Row.stops_sending k z y) (up {t}) = elim t [ true ↦ by refl | false ↦ by refl ]
+tracks (Row.stops_sending k z y) (up {t = true}) = by refl
+tracks (Row.stops_sending k z y) (up {t = false}) = by refl
 tracks (Row.asks_no_more k z y x) up = by refl
 tracks {c} (Row.same_mode i r o d s z) up = same_mode c r o d s open_up
 tracks {c} (Row.new_mode i r o d s z) up = new_mode c r o d s open_up
 tracks {c} (Row.granted i g) (up {t = true}) = by_grant (λ x. Tracks c.timers (tell (TxIndication g) x)) g (draft c) (by refl) (by refl) (by refl) (by refl) (by refl)
 tracks {c} (Row.granted i g) (up {t = false}) = by_grant (λ x. Tracks c.timers (tell (TxIndication g) x)) g (draft c) (by refl) (by refl) (by refl) (by refl) (by refl)
-tracks (Row.ceased i) (up {t}) = elim t [ true ↦ by refl | false ↦ by refl ]
+tracks (Row.ceased i) (up {t = true}) = by refl
+tracks (Row.ceased i) (up {t = false}) = by refl
 tracks (Row.interrupted i g) v = interrupts (eqb g 3) v
-tracks (Row.pauses i) (up {t}) = elim t [ true ↦ by refl | false ↦ by refl ]
-tracks Row.breaks (up {t}) = elim t [ true ↦ by refl | false ↦ by refl ]
+tracks (Row.pauses i) (up {t = true}) = by refl
+tracks (Row.pauses i) (up {t = false}) = by refl
+tracks Row.breaks (up {t = true}) = by refl
+tracks Row.breaks (up {t = false}) = by refl
 tracks (Row.talked_out n z y) v = talked_out n z v
 tracks (Row.wants k z) broken = by refl
 tracks Row.resumes broken = by refl

@@ -140,7 +140,8 @@ lapsed c h m k (t310 e) z = rw z at (let l : lapses T310 c ≡ true = search (le
 light : {c : Call} {s : State} {w : Path} {n : ℕ} {x : Draft} → Row c s w (Expiry n) x → Timed s w c → Light x
 unfolding sizes
 light {c} (Row.expires l n k t z) v = lapsed c (few_lapse (few v)) n k t z
-light (Row.talked_out n z y) (up {t}) = elim t [ true ↦ refl | false ↦ refl ]
+light (Row.talked_out n z y) (up {t = true}) = refl
+light (Row.talked_out n z y) (up {t = false}) = refl
 light (Row.unanswered n z) disconnect = refl
 
 pub expiry_short : (c : Call) (n : ℕ) → Reach c → (row_for c (Expiry n)).taken ≡ true → length (bytes_of (messages_in (row_for c (Expiry n)))) ≤ 30
