@@ -401,7 +401,7 @@ module _ (calls : List Call) (e : Event) (b : List ℕ) {r : AllStepped} {own ow
 
   -- what is copied is what was laid
   copied : {now : List ℕ} → r.size ≤ length b → r.size ≤ length own
-      → now ≡ take (length (take r.size own)) (take r.size own) ++ drop (length (take r.size own)) b
+      → now ≡ take r.size own ++ drop r.size b
       → now ≡ sets b 0 (bytes_of (writes_from 0 calls e))
   copied room fits is =
       let v = bytes_of (writes_from 0 calls e) in
@@ -410,11 +410,11 @@ module _ (calls : List Call) (e : Event) (b : List ℕ) {r : AllStepped} {own ow
       let front : take r.size own ≡ v =
       ap (λ (m : ℕ). take m own) n ∙ ap (λ (z : List ℕ). take (length v) z) (laid.bytes ∙ sets-eq v own₀ 0 (omega arith))
       ∙ take-append_seam v (drop (0 + length v) own₀) in
-      is ∙ ap (λ (z : List ℕ). take (length z) z ++ drop (length z) b) front ∙ ap (λ (z : List ℕ). z ++ drop (length v) b) (take-length v)
+      is ∙ ap (λ (z : List ℕ). z ++ drop r.size b) front ∙ ap (λ (m : ℕ). v ++ drop m b) n
       ∙ sym (sets-eq v b 0 (omega arith) ∙ ap (λ (m : ℕ). v ++ drop m b) (zero-add (length v)))
 
   pub all_take : (r.upto ≡ 0 → ⊥) → r.size ≤ length b → r.size ≤ length own → {now : List ℕ}
-      → now ≡ take (length (take r.size own)) (take r.size own) ++ drop (length (take r.size own)) b
+      → now ≡ take r.size own ++ drop r.size b
       → ◌≡◌ {A = ConsoleOutcome} (record { answer = 0; place = 0; calls = r.calls; count = r.size; buffer = now }) (everywhere calls e b)
   unfolding everywhere
   all_take one room fits is =

@@ -266,7 +266,7 @@ fine_both (m ∷ ms) ns p q = and _ _ (left (fine messages m) _ p) (fine_both ms
 written_fine : (c : Call) (ts : List Turn) → Kept c → Fine (written_in c ts)
 unfolding written_in next outcome
 written_fine c [] k = refl
-written_fine c (t ∷ ts) k = fine_both (written_by c t) _ (step_in_range c t k) (written_fine _ ts (step_keeps_sound c t.event t.buffer k))
+written_fine c (t ∷ ts) k = fine_both (written_by c t) _ (step_in_range c t k) (written_fine (next c t) ts (step_keeps_sound c t.event t.buffer k))
 
 place_fine : (k : ℕ) → k < 8 → fine messages (Place k) ≡ true
 unfolding fine flat_fits all_fit within

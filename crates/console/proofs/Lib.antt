@@ -4,10 +4,8 @@ pub mod ByKeys
 pub mod Demands
 pub mod Determined
 pub mod EachPlace
-pub mod Eight
 pub mod Everywhere
 pub mod Heard
-pub mod LentAgain
 pub mod Named
 pub mod Places
 pub mod Placing
@@ -17,6 +15,5 @@ pub mod Tables
 pub mod Timers
 pub mod Turns
 pub mod Twins
-pub mod Walking
 pub mod Went
 pub mod Witness

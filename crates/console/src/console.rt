@@ -177,7 +177,8 @@ pub(crate) fn everywhere(calls: [Call; 8], event: Event, buffer: &mut [u8]) -> C
             calls,
         };
     }
-    bytes::copy(&own[..size], buffer);
+    let room = &mut buffer[..size];
+    room.copy_from_slice(&own[..size]);
     let after = all.calls;
     ConsoleStepped {
         answer: ConsoleAnswer::OfStep(Answer::Taken),

@@ -44,7 +44,7 @@ module _ (s b : List ℕ) (e : Event) {calls : List Call} (held : calls ≡ held
       ∙ ap (λ (l : List Call). call_at l j) held
 
   pub all_left : ((i : ℕ) → get_or s i 0 < 256) → is_table s ≡ true → (r.upto ≡ 0 → ⊥) → r.size ≤ length b → r.size ≤ length own → {now after : List ℕ}
-      → now ≡ take (length (take r.size own)) (take r.size own) ++ drop (length (take r.size own)) b → after ≡ packed_first r.upto r.calls s
+      → now ≡ take r.size own ++ drop r.size b → after ≡ packed_first r.upto r.calls s
       → ◌≡◌ {A = TableLeft} (record { result = r.size; table = after; out = now }) (console_left s (everywhere (held_table s) e b))
   all_left small is one room fits {now} {after} copied packs =
       let o : ConsoleOutcome = record { answer = 0; place = 0; calls = r.calls; count = r.size; buffer = now } in

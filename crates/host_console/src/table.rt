@@ -122,7 +122,8 @@ fn to_all(table: &mut [u8], event: Event, out: &mut [u8]) -> u32
     if out.len() < size {
         return 7 * ANSWER;
     }
-    bytes::copy(&own[..size], out);
+    let room = &mut out[..size];
+    room.copy_from_slice(&own[..size]);
     let after = all.calls;
     pack_table(after, all.upto, table);
     size as u32

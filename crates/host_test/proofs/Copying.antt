@@ -7,7 +7,7 @@ use native.Mathlib.Omega.{arith}
 use borrow.Author.Tests.{lt-ltb, le-ltb}
 use lib.Dec.{eqb}
 use lib.ListN.{length, take, drop}
-use lib.Seq.{sets, sets-eq, take-length}
+use lib.Seq.{sets, sets-eq}
 use Rattle.pieces.specs.declared.reader.Where.{Where}
 use Rattle.pieces.specs.Next.{where_number, record_in}
 use Rattle.host_test.specs.Record.{ANSWER, where_is, copied, record_copied}
@@ -28,9 +28,8 @@ record_size lies size carry piece =
 too_short : (r out : List ℕ) → length out < length r → (7 * ANSWER, out) ≡ copied r out
 too_short r out lt = rw (lt-ltb (length out) (length r) lt)
 
-fits : (r out : List ℕ) {after : List ℕ} → length r ≤ length out → after ≡ take (length r) r ++ drop (length r) out → (length r, after) ≡ copied r out
-fits r out {after} le is =
-    let all : after ≡ r ++ drop (length r) out = is ∙ ap (λ (z : List ℕ). z ++ drop (length r) out) (take-length r) in
+fits : (r out : List ℕ) {after : List ℕ} → length r ≤ length out → after ≡ r ++ drop (length r) out → (length r, after) ≡ copied r out
+fits r out {after} le all =
     let zero_more : 0 + length r ≡ length r = omega arith in
     let stored : sets out 0 r ≡ r ++ drop (length r) out = sets-eq r out 0 (omega arith) ∙ ap (λ (n : ℕ). take 0 out ++ r ++ drop n out) zero_more in
     rw (le-ltb (length out) (length r) le) (ap (λ (z : List ℕ). (length r, z)) (all ∙ sym stored))
@@ -47,5 +46,5 @@ module _ (lies size : ℕ) (carry piece out : List ℕ) {p : Where} {r : List �
   pub no_room : length out < length r → (7 * ANSWER, out) ≡ record_copied lies size carry piece out
   no_room lt = too_short r out lt ∙ whole
 
-  pub copies : {after : List ℕ} → length r ≤ length out → after ≡ take (length r) r ++ drop (length r) out → (length r, after) ≡ record_copied lies size carry piece out
+  pub copies : {after : List ℕ} → length r ≤ length out → after ≡ r ++ drop (length r) out → (length r, after) ≡ record_copied lies size carry piece out
   copies le is-copy = fits r out le is-copy ∙ whole

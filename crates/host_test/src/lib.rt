@@ -44,6 +44,7 @@ pub extern "C" fn callcontrol_test_record_in<'a>(
     if out.len() < count {
         return 7 * ANSWER;
     }
-    bytes::copy(record, out);
+    let room = &mut out[..count];
+    room.copy_from_slice(record);
     count as u32
 }

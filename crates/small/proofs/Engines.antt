@@ -80,7 +80,7 @@ turn_is f p c t = p c t.event t.buffer
 record_is : (f : Engine) → Promised f → (c : Call) (ts : List Turn) → engine_run f c ts ≡ run c ts
 unfolding engine_run run next
 record_is f p c [] = refl
-record_is f p c (t ∷ ts) = rw (turn_is f p c t) (record_is f p (outcome c t).call ts)
+record_is f p c (t ∷ ts) = ap (λ (o : Outcome). engine_run f o.call ts) (turn_is f p c t) ∙ record_is f p (outcome c t).call ts
 
 pub same_run : SameRun
 same_run f p c ts = (record_is f p c ts, λ t. rw (record_is f p c ts) (turn_is f p (run c ts) t))

@@ -6,7 +6,7 @@ use native.Mathlib.Nat.{zero-add}
 use native.Mathlib.Omega.{arith}
 use lib.Dec.{eqb}
 use lib.ListN.{length, take, drop}
-use lib.Seq.{sets, sets-eq, length-sets, take-length, take-append_seam, length-take-le}
+use lib.Seq.{sets, sets-eq, length-sets, take-append_seam, length-take-le}
 use mathlib.Core.Bool.{Bool}
 use Rattle.records.specs.Bodies.{Stored}
 use Rattle.records.proofs.Laws.{by_test}
@@ -33,14 +33,14 @@ front_within n own b fits room = let s = front_size n own fits in omega arith
 
 -- what is copied is what was laid
 copied : (b : List ℕ) {own₀ own now v : List ℕ} {size : ℕ} → Stored own₀ 0 v size own → size ≤ length b → size ≤ length own
-    → now ≡ take (length (take size own)) (take size own) ++ drop (length (take size own)) b → now ≡ sets b 0 v
+    → now ≡ take size own ++ drop size b → now ≡ sets b 0 v
 copied b {own₀} {own} {now} {v} {size} s room fits is =
     let n : size ≡ length v = s.end ∙ zero-add (length v) in
     let l : length own ≡ length own₀ = ap length s.now ∙ length-sets own₀ 0 v in
     let front : take size own ≡ v =
     ap (λ (m : ℕ). take m own) n ∙ ap (λ (z : List ℕ). take (length v) z) (s.now ∙ sets-eq v own₀ 0 (omega arith))
     ∙ take-append_seam v (drop (0 + length v) own₀) in
-    is ∙ ap (λ (z : List ℕ). take (length z) z ++ drop (length z) b) front ∙ ap (λ (z : List ℕ). z ++ drop (length v) b) (take-length v)
+    is ∙ ap (λ (z : List ℕ). z ++ drop size b) front ∙ ap (λ (m : ℕ). v ++ drop m b) n
     ∙ sym (sets-eq v b 0 (omega arith) ∙ ap (λ (m : ℕ). v ++ drop m b) (zero-add (length v)))
 
 module _ (c : Call) (r : Row) (seven : length c.timers ≡ 7) where
@@ -67,7 +67,7 @@ module _ (c : Call) (r : Row) (seven : length c.timers ≡ 7) where
   sized s = s.end ∙ zero-add (length laid) ∙ ap length whole_laid
 
   pub carries : (b : List ℕ) {own₀ own now : List ℕ} {size : ℕ} (running : List Bool) → Stored own₀ 0 laid size own → running ≡ turns r.orders r.code plane 18 0 c.timers
-      → size ≤ length b → size ≤ length own → now ≡ take (length (take size own)) (take size own) ++ drop (length (take size own)) b
+      → size ≤ length b → size ≤ length own → now ≡ take size own ++ drop size b
       → ◌≡◌ {A = Outcome} (record { answer = 0; place = 0; call = next_by c r plane running; count = size; buffer = now }) (carried c (settled c r) b)
   unfolding settled
   carries b {own₀} {own} {now} {size} running s ran room fits is =

@@ -542,7 +542,8 @@ pub fn carry_row(call: Call, row: Row, buffer: &mut [u8]) -> Stepped
     if buffer.len() < size {
         return refuse(Answer::NoRoom, 0, call);
     }
-    bytes::copy(&own[..size], buffer);
+    let room = &mut buffer[..size];
+    room.copy_from_slice(&own[..size]);
     Stepped {
         answer: Answer::Taken,
         place: 0,

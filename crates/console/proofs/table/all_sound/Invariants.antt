@@ -1,0 +1,16 @@
+-- Each place that is passed is sound.
+use Prim.Native.Nat.{◌≤◌, ◌-◌, ◌+◌}
+use mathlib.Core.Path.{◌≡◌, refl, sym, ◌∙◌}
+use native.Mathlib.Omega.{arith}
+use borrow.Author.Tests.{not-true, not-false}
+use lib.ListN.{length, drop}
+use Rattle.callcontrol.specs.Call.{sound}
+use Rattle.console.specs.Table.{every?}
+use Rattle.console.proofs.Places.{every_not, every_later, every_end}
+use Rattle.console.proofs.table.all_sound.Given as goal
+
+abbrev pub invariant-loop-k : goal.invariant-loop-k
+invariant-loop-k l = (every? sound l.calls ≡ every? sound (drop l.k l.calls)) × (l.k ≤ 8) × (length l.calls ≡ 8)
+
+abbrev pub decreases-loop-k : goal.decreases-loop-k
+decreases-loop-k l = 8 - l.k

@@ -1,0 +1,16 @@
+-- The rows before k do not fit.
+use Prim.Native.Nat.{ℕ, suc, ◌+◌, ◌-◌, ◌^◌, ◌≤◌, ◌<◌}
+use mathlib.Core.Path.{◌≡◌, refl, sym, ◌∙◌}
+use native.Mathlib.Omega.{arith}
+use lib.ListN.{length, get_or}
+use mathlib.Core.Bool.{Bool, true, false, cond}
+use mathlib.Core.List.{List}
+use Rattle.small.specs.Table.{fits, first_of, rows}
+use Rattle.small.proofs.Scan.{after, here, none_after, above, skipped}
+use Rattle.small.proofs.rows.found.Given as goal
+
+abbrev pub invariant-loop-k : goal.invariant-loop-k
+invariant-loop-k l = first_of (2 ^ l.situation) l.kind l.facts (after l.k rows) ≡ first_of (2 ^ l.situation) l.kind l.facts rows
+
+abbrev pub decreases-loop-k : goal.decreases-loop-k
+decreases-loop-k l = 38 - l.k
