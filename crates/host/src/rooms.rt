@@ -108,7 +108,7 @@ fn leave(answered: Answered, s: &mut [u8]) -> u32
 // Writes four free rooms; answer 1 where there are not 20 bytes.
 #[unsafe(no_mangle)]
 pub extern "C" fn callcontrol_channel_fresh(rooms: &mut [u8]) -> u32
-    ensures* { λ r. ⌜ ◌≡◌ {A = RoomsLeft} (record { result = r; rooms = rooms.new; out = [] }) (rooms_freshened rooms.old) ⌝ }
+    ensures { ◌≡◌ {A = RoomsLeft} (record { result = result; rooms = rooms.new; out = [] }) (rooms_freshened rooms.old) }
 {
     if rooms.len() != 20 {
         return ANSWER;
@@ -126,7 +126,7 @@ pub extern "C" fn callcontrol_channel_ask(
     asked: u8,
     out: &mut [u8],
 ) -> u32
-    ensures* { λ r. ⌜ ◌≡◌ {A = RoomsLeft} (record { result = r; rooms = rooms.new; out = out.new }) (on_rooms rooms.old out.old (λ held. ask_of held number call asked out.old)) ⌝ }
+    ensures { ◌≡◌ {A = RoomsLeft} (record { result = result; rooms = rooms.new; out = out.new }) (on_rooms rooms.old out.old (λ held. ask_of held number call asked out.old)) }
 {
     if !is_rooms(rooms) {
         return ANSWER;
@@ -154,7 +154,7 @@ pub extern "C" fn callcontrol_channel_pdu(
     res: u32,
     out: &mut [u8],
 ) -> u32
-    ensures* { λ r. ⌜ ◌≡◌ {A = RoomsLeft} (record { result = r; rooms = rooms.new; out = out.new }) (on_rooms rooms.old out.old (λ held. pdu_of held number call (res / ANSWER) out.old)) ⌝ }
+    ensures { ◌≡◌ {A = RoomsLeft} (record { result = result; rooms = rooms.new; out = out.new }) (on_rooms rooms.old out.old (λ held. pdu_of held number call (res / ANSWER) out.old)) }
 {
     if !is_rooms(rooms) {
         return ANSWER;
@@ -171,7 +171,7 @@ pub extern "C" fn callcontrol_channel_decide(
     decision: u8,
     out: &mut [u8],
 ) -> u32
-    ensures* { λ r. ⌜ ◌≡◌ {A = RoomsLeft} (record { result = r; rooms = rooms.new; out = out.new }) (on_rooms rooms.old out.old (λ held. decide_of held number decision out.old)) ⌝ }
+    ensures { ◌≡◌ {A = RoomsLeft} (record { result = result; rooms = rooms.new; out = out.new }) (on_rooms rooms.old out.old (λ held. decide_of held number decision out.old)) }
 {
     if !is_rooms(rooms) {
         return ANSWER;
@@ -183,7 +183,7 @@ pub extern "C" fn callcontrol_channel_decide(
 // A call has ended.
 #[unsafe(no_mangle)]
 pub extern "C" fn callcontrol_channel_ended(rooms: &mut [u8], call: u16, out: &mut [u8]) -> u32
-    ensures* { λ r. ⌜ ◌≡◌ {A = RoomsLeft} (record { result = r; rooms = rooms.new; out = out.new }) (on_rooms rooms.old out.old (λ held. ended_of held call out.old)) ⌝ }
+    ensures { ◌≡◌ {A = RoomsLeft} (record { result = result; rooms = rooms.new; out = out.new }) (on_rooms rooms.old out.old (λ held. ended_of held call out.old)) }
 {
     if !is_rooms(rooms) {
         return ANSWER;

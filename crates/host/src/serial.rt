@@ -67,7 +67,7 @@ pub extern "C" fn callcontrol_pieces_fresh(reader: &mut [u8]) -> u32
 // One piece: the reader goes on, and at most one record is handed on; bytes that are no reader are answer 1.
 #[unsafe(no_mangle)]
 pub extern "C" fn callcontrol_pieces_next(reader: &mut [u8], carry: &mut [u8], piece: &[u8]) -> u32
-    ensures* { λ r. ⌜ ◌≡◌ {A = LeftByPiece} (record { result = r; reader = reader.new; carry = carry.new }) (host_next reader.old carry.old piece.now) ⌝ }
+    ensures { ◌≡◌ {A = LeftByPiece} (record { result = result; reader = reader.new; carry = carry.new }) (host_next reader.old carry.old piece.now) }
 {
     if !is_reader(reader) {
         return ANSWER;

@@ -93,7 +93,7 @@ pub extern "C" fn callcontrol_console_fresh(table: &mut [u8]) -> u32
 fn to_place(table: &mut [u8], k: usize, event: Event, out: &mut [u8]) -> u32
     requires k_bound { k < 8 }
     requires table_value { is_table table.old ≡ true }
-    ensures* { λ r. ⌜ ◌≡◌ {A = TableLeft} (record { result = r; table = table.new; out = out.new }) (console_left table.old (at_place k (held_table table.old) event out.old)) ⌝ }
+    ensures { ◌≡◌ {A = TableLeft} (record { result = result; table = table.new; out = out.new }) (console_left table.old (at_place k (held_table table.old) event out.old)) }
 {
     let at = 22 * k;
     let call = held(&table[at..at + 22]);
@@ -111,7 +111,7 @@ fn to_place(table: &mut [u8], k: usize, event: Event, out: &mut [u8]) -> u32
 // An event for every place: eight records are read and stepped, and written where the event is taken and all messages fit, up to the last that takes it.
 fn to_all(table: &mut [u8], event: Event, out: &mut [u8]) -> u32
     requires { (aim_of event ≡ Aim.Every) × (is_table table.old ≡ true) }
-    ensures* { λ r. ⌜ ◌≡◌ {A = TableLeft} (record { result = r; table = table.new; out = out.new }) (console_left table.old (everywhere (held_table table.old) event out.old)) ⌝ }
+    ensures { ◌≡◌ {A = TableLeft} (record { result = result; table = table.new; out = out.new }) (console_left table.old (everywhere (held_table table.old) event out.old)) }
 {
     let mut own = own_buffer();
     let all = put_all(held_table(table), event, &mut own);
@@ -137,7 +137,7 @@ pub extern "C" fn callcontrol_console_step(
     event: &[u8],
     out: &mut [u8],
 ) -> u32
-    ensures* { λ r. ⌜ ◌≡◌ {A = TableLeft} (record { result = r; table = table.new; out = out.new }) (console_host_step table.old place event.now out.old) ⌝ }
+    ensures { ◌≡◌ {A = TableLeft} (record { result = result; table = table.new; out = out.new }) (console_host_step table.old place event.now out.old) }
 {
     let read = table_keys(table);
     if !read.ok {

@@ -25,7 +25,7 @@ pub extern "C" fn callcontrol_fresh(call: &mut [u8]) -> u32
 // One step: the record goes on and the messages are in out, or nothing is changed.
 #[unsafe(no_mangle)]
 pub extern "C" fn callcontrol_step(call: &mut [u8], event: &[u8], out: &mut [u8]) -> u32
-    ensures* { λ r. ⌜ ◌≡◌ {A = Left} (record { result = r; call = call.new; out = out.new }) (host_step call.old event.now out.old) ⌝ }
+    ensures { ◌≡◌ {A = Left} (record { result = result; call = call.new; out = out.new }) (host_step call.old event.now out.old) }
 {
     if !is_record(call) {
         return ANSWER;

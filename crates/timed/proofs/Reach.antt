@@ -69,7 +69,7 @@ log_append c (t ∷ ts) us = rw (log_append (Steps.next c t) ts us)
 note-append : (f : List Bool) (xs ys : List _) → note_log f (xs ++ ys) ≡ note_log (note_log f xs) ys
 unfolding note_log
 note-append f [] ys = refl
-note-append f (x ∷ xs) ys = note-append _ xs ys
+note-append f (x ∷ xs) ys = note-append (note_messages (note_taken f x.taken) x.written) xs ys
 
 tracked_at : (ts : List Steps.Turn) (u : Steps.Turn)
     → note_messages (note_taken (Steps.run fresh_call ts).timers (Steps.taken_by (Steps.run fresh_call ts) u)) (Steps.written_by (Steps.run fresh_call ts) u)

@@ -6,13 +6,9 @@ use Rattle.callcontrol.specs.Step.{answer_number}
 use Rattle.callcontrol.specs.Rows.{row_for}
 use Rattle.callcontrol.specs.Writing.{messages_in}
 use Rattle.timed.proofs.Taking.{not_taken, refused_event, wrote, fits_in, taken_event}
+use borrow.Author.Rules.{rules}
 use borrow.Enum.Refused.{opened}
 use Rattle.timed.proofs.set.take.Goals as goal
-
--- a record's array has seven timers
-
-seven : (s : tie.Start) → length s.args.timed.call.timers ≡ 7
-seven s = search rules
 
 pub returns-in_default : goal.returns-in_default
 returns-in_default c =
@@ -35,9 +31,12 @@ slice_bounds-start_all-end-2 c =
 pub start_all-started-requires : goal.start_all-started-requires
 start_all-started-requires c =
     let d = c.decide-stepped in
-    (messages_in (row_for c.args.timed.call c.args.event), wrote _ _ _ _ d.result c.requires.0 (seven s) c.requires.1 d.ensures (ap answer_number c.in-Taken.is))
+    -- a record's array has seven timers
+    let seven : length c.args.timed.call.timers ≡ 7 = search rules in
+    (messages_in (row_for c.args.timed.call c.args.event), wrote _ _ _ _ d.result c.requires.0 seven c.requires.1 d.ensures (ap answer_number c.in-Taken.is))
 
 pub returns : goal.returns
 returns c =
     let d = c.decide-stepped in
-    taken_event _ _ _ _ _ _ _ _ _ d.result c.requires.0 (seven s) c.requires.1 d.ensures (ap answer_number c.in-Taken.is) c.start_all-started.ensures c.with_flags.ensures
+    let seven : length c.args.timed.call.timers ≡ 7 = search rules in
+    taken_event _ _ _ _ _ _ _ _ _ d.result c.requires.0 seven c.requires.1 d.ensures (ap answer_number c.in-Taken.is) c.start_all-started.ensures c.with_flags.ensures
