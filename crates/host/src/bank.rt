@@ -109,8 +109,7 @@ fn pack_bank(bank: Bank, s: &mut [u8])
 }
 
 // Makes a bank in which no timer runs; answer 1 where it has not 39 bytes.
-#[unsafe(no_mangle)]
-pub extern "C" fn callcontrol_bank_new(bank: &mut [u8], reading: u32) -> u32
+pub fn callcontrol_bank_new(bank: &mut [u8], reading: u32) -> u32
     ensures { ◌≡◌ {A = BankLeft} (record { result = result; bank = bank.new; list = [] }) (bank_made bank.old reading) }
 {
     if bank.len() != 39 {
@@ -121,8 +120,7 @@ pub extern "C" fn callcontrol_bank_new(bank: &mut [u8], reading: u32) -> u32
 }
 
 // STOP.
-#[unsafe(no_mangle)]
-pub extern "C" fn callcontrol_bank_stop(bank: &mut [u8], timer: u16) -> u32
+pub fn callcontrol_bank_stop(bank: &mut [u8], timer: u16) -> u32
     ensures { ◌≡◌ {A = BankLeft} (record { result = result; bank = bank.new; list = [] }) (on_bank bank.old [] (λ b. stopped b timer)) }
 {
     if !is_bank(bank) {
@@ -140,8 +138,7 @@ pub extern "C" fn callcontrol_bank_stop(bank: &mut [u8], timer: u16) -> u32
 }
 
 // START, with the timer's length in the lent table.
-#[unsafe(no_mangle)]
-pub extern "C" fn callcontrol_bank_start(
+pub fn callcontrol_bank_start(
     bank: &mut [u8],
     table: &[u32],
     timer: u16,
@@ -164,8 +161,7 @@ pub extern "C" fn callcontrol_bank_start(
 }
 
 // A new reading: the timers then due are handed out into the lent list.
-#[unsafe(no_mangle)]
-pub extern "C" fn callcontrol_bank_advance(bank: &mut [u8], reading: u32, due: &mut [u16]) -> u32
+pub fn callcontrol_bank_advance(bank: &mut [u8], reading: u32, due: &mut [u16]) -> u32
     ensures { ◌≡◌ {A = BankLeft} (record { result = result; bank = bank.new; list = due.new }) (on_bank bank.old due.old (λ b. advanced b reading due.old)) }
 {
     if !is_bank(bank) {

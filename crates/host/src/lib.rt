@@ -8,10 +8,10 @@ ghost use Rattle.records.specs.Events.{events, as_event_read};
 ghost use Rattle.records.specs.Messages.{messages, as_message_read};
 ghost use Rattle.host.specs.Entries.{Left, freshened, host_step, read_word, wrote_word, checked, copied};
 
-mod bank;
+pub mod bank;
 pub mod packed;
-mod rooms;
-mod serial;
+pub mod rooms;
+pub mod serial;
 
 use crate::packed::{ANSWER, PLACE, held, is_record, pack};
 use callcontrol::call::Call;
@@ -55,8 +55,7 @@ fn written_word(written: Written) -> u32
 }
 
 // Writes the fresh record; answer 1 where it has not 22 bytes.
-#[unsafe(no_mangle)]
-pub extern "C" fn callcontrol_fresh(call: &mut [u8]) -> u32
+pub fn callcontrol_fresh(call: &mut [u8]) -> u32
     ensures { ◌≡◌ {A = ℕ × List ℕ} (result, call.new) (freshened call.old) }
 {
     if call.len() != 22 {
@@ -67,8 +66,7 @@ pub extern "C" fn callcontrol_fresh(call: &mut [u8]) -> u32
 }
 
 // One step: the record goes on and the messages are in out, or nothing is changed.
-#[unsafe(no_mangle)]
-pub extern "C" fn callcontrol_step(call: &mut [u8], event: &[u8], out: &mut [u8]) -> u32
+pub fn callcontrol_step(call: &mut [u8], event: &[u8], out: &mut [u8]) -> u32
     ensures { ◌≡◌ {A = Left} (record { result = result; call = call.new; out = out.new }) (host_step call.old event.now out.old) }
 {
     if !is_record(call) {
@@ -86,24 +84,21 @@ pub extern "C" fn callcontrol_step(call: &mut [u8], event: &[u8], out: &mut [u8]
 }
 
 // What reading an event answers.
-#[unsafe(no_mangle)]
-pub extern "C" fn callcontrol_check_event(bytes: &[u8]) -> u32
+pub fn callcontrol_check_event(bytes: &[u8]) -> u32
     ensures { result ≡ checked events bytes.now }
 {
     event_word(read_event(bytes))
 }
 
 // What reading a message answers.
-#[unsafe(no_mangle)]
-pub extern "C" fn callcontrol_check_message(bytes: &[u8]) -> u32
+pub fn callcontrol_check_message(bytes: &[u8]) -> u32
     ensures { result ≡ checked messages bytes.now }
 {
     message_word(read_message(bytes))
 }
 
 // An event read, and written back into out.
-#[unsafe(no_mangle)]
-pub extern "C" fn callcontrol_copy_event(bytes: &[u8], out: &mut [u8]) -> u32
+pub fn callcontrol_copy_event(bytes: &[u8], out: &mut [u8]) -> u32
     ensures { ◌≡◌ {A = ℕ × List ℕ} (result, out.new) (copied events bytes.now out.old) }
 {
     let read = read_event(bytes);
@@ -114,8 +109,7 @@ pub extern "C" fn callcontrol_copy_event(bytes: &[u8], out: &mut [u8]) -> u32
 }
 
 // A message read, and written back into out.
-#[unsafe(no_mangle)]
-pub extern "C" fn callcontrol_copy_message(bytes: &[u8], out: &mut [u8]) -> u32
+pub fn callcontrol_copy_message(bytes: &[u8], out: &mut [u8]) -> u32
     ensures { ◌≡◌ {A = ℕ × List ℕ} (result, out.new) (copied messages bytes.now out.old) }
 {
     let read = read_message(bytes);

@@ -106,8 +106,7 @@ fn leave(answered: Answered, s: &mut [u8]) -> u32
 }
 
 // Writes four free rooms; answer 1 where there are not 20 bytes.
-#[unsafe(no_mangle)]
-pub extern "C" fn callcontrol_channel_fresh(rooms: &mut [u8]) -> u32
+pub fn callcontrol_channel_fresh(rooms: &mut [u8]) -> u32
     ensures { ◌≡◌ {A = RoomsLeft} (record { result = result; rooms = rooms.new; out = [] }) (rooms_freshened rooms.old) }
 {
     if rooms.len() != 20 {
@@ -118,8 +117,7 @@ pub extern "C" fn callcontrol_channel_fresh(rooms: &mut [u8]) -> u32
 }
 
 // The lower layers ask whether to follow a channel allocation.
-#[unsafe(no_mangle)]
-pub extern "C" fn callcontrol_channel_ask(
+pub fn callcontrol_channel_ask(
     rooms: &mut [u8],
     number: u16,
     call: u16,
@@ -136,36 +134,34 @@ pub extern "C" fn callcontrol_channel_ask(
 }
 
 // What is asked of an individually addressed PDU, by what the step returned for it.
-fn asked_by(res: u32) -> u8
-    ensures { result ≡ asked_by (res / ANSWER) }
+fn asked_by(returned: u32) -> u8
+    ensures { result ≡ asked_by (returned / ANSWER) }
 {
-    if res / ANSWER == 0 {
+    if returned / ANSWER == 0 {
         return 0;
     }
     1
 }
 
 // The question on an individually addressed PDU, with what the step returned for the PDU.
-#[unsafe(no_mangle)]
-pub extern "C" fn callcontrol_channel_pdu(
+pub fn callcontrol_channel_pdu(
     rooms: &mut [u8],
     number: u16,
     call: u16,
-    res: u32,
+    returned: u32,
     out: &mut [u8],
 ) -> u32
-    ensures { ◌≡◌ {A = RoomsLeft} (record { result = result; rooms = rooms.new; out = out.new }) (on_rooms rooms.old out.old (λ held. pdu_of held number call (res / ANSWER) out.old)) }
+    ensures { ◌≡◌ {A = RoomsLeft} (record { result = result; rooms = rooms.new; out = out.new }) (on_rooms rooms.old out.old (λ held. pdu_of held number call (returned / ANSWER) out.old)) }
 {
     if !is_rooms(rooms) {
         return ANSWER;
     }
-    let answered = ask(held_rooms(rooms), number, call, asked_by(res), out);
+    let answered = ask(held_rooms(rooms), number, call, asked_by(returned), out);
     leave(answered, rooms)
 }
 
 // A decision comes for the question of a number.
-#[unsafe(no_mangle)]
-pub extern "C" fn callcontrol_channel_decide(
+pub fn callcontrol_channel_decide(
     rooms: &mut [u8],
     number: u16,
     decision: u8,
@@ -181,8 +177,7 @@ pub extern "C" fn callcontrol_channel_decide(
 }
 
 // A call has ended.
-#[unsafe(no_mangle)]
-pub extern "C" fn callcontrol_channel_ended(rooms: &mut [u8], call: u16, out: &mut [u8]) -> u32
+pub fn callcontrol_channel_ended(rooms: &mut [u8], call: u16, out: &mut [u8]) -> u32
     ensures { ◌≡◌ {A = RoomsLeft} (record { result = result; rooms = rooms.new; out = out.new }) (on_rooms rooms.old out.old (λ held. ended_of held call out.old)) }
 {
     if !is_rooms(rooms) {

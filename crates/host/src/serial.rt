@@ -53,8 +53,7 @@ fn found_word(found: Found) -> u32
 }
 
 // Writes the fresh reader; answer 1 where it has not 2 bytes.
-#[unsafe(no_mangle)]
-pub extern "C" fn callcontrol_pieces_fresh(reader: &mut [u8]) -> u32
+pub fn callcontrol_pieces_fresh(reader: &mut [u8]) -> u32
     ensures { ◌≡◌ {A = ℕ × List ℕ} (result, reader.new) (reader_freshened reader.old) }
 {
     if reader.len() != 2 {
@@ -65,8 +64,7 @@ pub extern "C" fn callcontrol_pieces_fresh(reader: &mut [u8]) -> u32
 }
 
 // One piece: the reader goes on, and at most one record is handed on; bytes that are no reader are answer 1.
-#[unsafe(no_mangle)]
-pub extern "C" fn callcontrol_pieces_next(reader: &mut [u8], carry: &mut [u8], piece: &[u8]) -> u32
+pub fn callcontrol_pieces_next(reader: &mut [u8], carry: &mut [u8], piece: &[u8]) -> u32
     ensures { ◌≡◌ {A = LeftByPiece} (record { result = result; reader = reader.new; carry = carry.new }) (host_next reader.old carry.old piece.now) }
 {
     if !is_reader(reader) {

@@ -1,0 +1,15 @@
+-- By the number.
+use borrow.Author.Tests.{ne_eqb}
+use Rattle.host.proofs.rooms.wait_is.Goals as goal
+
+pub returns-in-0 : goal.returns-in-0
+returns-in-0 c = rw c.in-0.is
+
+pub returns-in-1 : goal.returns-in-1
+returns-in-1 c = rw c.in-1.is
+
+pub returns-in-2 : goal.returns-in-2
+returns-in-2 c = rw c.in-2.is
+
+pub returns-in_default : goal.returns-in_default
+returns-in_default c = let r = c.in_default.in_default-own.rest in rw (ne_eqb c.args.n 1 r.0.1, ne_eqb c.args.n 2 r.1)
