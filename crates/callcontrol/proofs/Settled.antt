@@ -1,7 +1,7 @@
 -- Each row of the code, a sum of orders, stands for the row of the definitions.
 use Prim.Native.Nat.{ℕ, zero, suc, ◌+◌, ◌<◌}
 use mathlib.Core.Path.{◌≡◌, refl, ap, ◌∙◌}
-use mathlib.Core.Bool.{Bool, true, false, cond, not, ◌||◌}
+use mathlib.Core.Bool.{Bool, true, false, cond, not}
 use mathlib.Core.List.{List, [], ◌∷◌}
 use borrow.Author.Tests.{eq-eqb, ne_eqb}
 use native.Mathlib.Omega.{arith}
@@ -15,8 +15,8 @@ use Rattle.callcontrol.specs.declared.call.Path.{Path}
 use Rattle.callcontrol.specs.Draft.{Draft}
 use Rattle.callcontrol.specs.Call.{runs, transmits, T301, T302, T303, T306, T308, T310, T311}
 use Rattle.callcontrol.specs.Draft.{◌▷◌, draft, no_row, go, on_path, store_id, store_mode, store_asked, store_sent, store_code, store_slots, keep, stop, start, expired, release, same_plane, plane, off, say, tell, tell_modified, grant, grant_or_off, restart, cancel}
-use Rattle.callcontrol.specs.Rows.{releasing, released, disconnected, idle, mo_call_setup, mt_call_setup, informed, cut, active_up, asks, active_broken, active_restoring, wait, confirmed}
-use Rattle.callcontrol.specs.Settle.{STAY, MO_CALL_SETUP, MT_CALL_SETUP, CALL_ACTIVE, WAIT, CALL_DISCONNECT, OVER, UP, BROKEN, RESTORING, SENT, PLANE_1, PLANE_2, PLANE_3, PLANE_OFF, SAME_PLANE, KEPT_PLANE, U_SETUP, U_CONNECT, U_RELEASE, U_TX_DEMAND, U_TX_CEASED, U_CALL_RESTORE, SETUP_INDICATION, SETUP_CONFIRM, PROCEED, ALERT, COMPLETE, RELEASE_INDICATION, RELEASE_CONFIRM, TX_INDICATION, MODIFY_INDICATION, CANCEL, STOP_301, STOP_302, STOP_303, STOP_306, START_301, START_302, START_303, START_306, START_310, EXPIRED_301, EXPIRED_302, EXPIRED_303, EXPIRED_306, EXPIRED_308, EXPIRED_310, EXPIRED_311, ENDED, CONFIRMED, RELEASE, has, timing, expire_timer, stop_timer, start_timer, stop_if, start_if, limit_timer, limit_if, expired_by, ordered_by, plane_timer, timing_by, configure_by, plane_by, state_by, kept_by, path_by, sent_by, next_by, pdu_by, user_by, settled, draft_of, none_row, row_of, row_asking, row_naming, plane_granted, plane_or_off, asked_after, restarting, code_after, slots_after}
+use Rattle.callcontrol.specs.Rows.{releasing, released, disconnected, idle, mo_call_setup, mt_call_setup, informed, cut, asks, active_broken, active_restoring, wait, confirmed}
+use Rattle.callcontrol.specs.Settle.{STAY, MO_CALL_SETUP, MT_CALL_SETUP, CALL_ACTIVE, WAIT, OVER, UP, BROKEN, RESTORING, SENT, PLANE_1, PLANE_2, PLANE_3, PLANE_OFF, SAME_PLANE, KEPT_PLANE, U_SETUP, U_CONNECT, U_RELEASE, U_TX_DEMAND, U_TX_CEASED, U_CALL_RESTORE, SETUP_INDICATION, SETUP_CONFIRM, PROCEED, ALERT, COMPLETE, RELEASE_INDICATION, RELEASE_CONFIRM, TX_INDICATION, MODIFY_INDICATION, CANCEL, STOP_301, STOP_302, STOP_303, STOP_306, START_301, START_302, START_303, START_306, START_310, EXPIRED_301, EXPIRED_302, EXPIRED_303, EXPIRED_306, EXPIRED_308, EXPIRED_310, EXPIRED_311, ENDED, CONFIRMED, RELEASE, has, timing, expire_timer, stop_timer, start_timer, stop_if, start_if, limit_timer, limit_if, expired_by, ordered_by, plane_timer, timing_by, configure_by, plane_by, state_by, kept_by, path_by, sent_by, next_by, pdu_by, user_by, settled, draft_of, none_row, row_of, row_asking, row_naming, plane_granted, plane_or_off, asked_after, restarting, code_after, slots_after}
 use Rattle.callcontrol.proofs.Verbs.{verbs}
 
 unfoldable pub numbers : Unit {0}

@@ -1,5 +1,5 @@
 -- What one step writes: the draft's messages in the paper's order, and their bytes.
-use Rattle.std.specs.Prelude.{ℕ, ◌+◌, ◌≡◌, Bool, true, false, cond, not, List, [], ◌∷◌, ◌++◌, eqb, get_or}
+use Rattle.std.specs.Prelude.{ℕ, ◌+◌, ◌≡◌, Bool, false, cond, not, List, [], ◌∷◌, ◌++◌, eqb, get_or}
 use Rattle.records.specs.declared.messages.Message.{Message}
 use Rattle.records.specs.Bodies.{laid, laid_next}
 use Rattle.records.specs.Messages.{message_bytes}

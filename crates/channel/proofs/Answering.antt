@@ -1,10 +1,10 @@
 -- The number given is the first that applies.
 use Prim.Native.Nat.{ℕ, ◌*◌, ◌≤◌, ◌<◌}
-use mathlib.Core.Path.{◌≡◌, refl, sym, ◌∙◌, ap}
-use mathlib.Core.Bool.{Bool, true, false, cond, not, ◌&&◌, ◌||◌}
+use mathlib.Core.Path.{◌≡◌, refl, ◌∙◌, ap}
+use mathlib.Core.Bool.{Bool, true, false, cond, not, ◌||◌}
 use mathlib.Core.List.{List, [], ◌∷◌}
 use native.Mathlib.Omega.{arith}
-use borrow.Author.Tests.{le-leb, lt-leb, le-ltb, lt-ltb, leb-true, leb-false, eqb-true, eqb-false, ne_eqb}
+use borrow.Author.Tests.{le-ltb, lt-ltb, leb-true, leb-false, eqb-true, eqb-false, ne_eqb}
 use lib.Dec.{eqb, leb, ltb}
 use lib.ListN.{length}
 use lib.Seq.{sets}
@@ -18,8 +18,8 @@ use Rattle.channel.specs.declared.rooms.Room.{Room}
 use Rattle.channel.specs.declared.questions.Asked.{Asked}
 use Rattle.channel.specs.declared.questions.Decision.{Decision}
 use Rattle.channel.specs.Rooms.{free_room, is_free, has_number, waits_for, of_call, some?, rooms_sound, in_first, all_freed, count}
-use Rattle.channel.specs.Questions.{Outcome, refusal, carried, asked_of, decision_of, first_out, taken, asked_as, decided_as, ask_of, decide_of, ended_of, rejects_in}
-use Rattle.channel.specs.Runs.{Turn, question, decision, end, outcome}
+use Rattle.channel.specs.Questions.{Outcome, refusal, carried, asked_of, decision_of, first_out, taken, decided_as, ask_of, decide_of, ended_of, rejects_in}
+use Rattle.channel.specs.Runs.{question, decision, end, outcome}
 use Rattle.channel.specs.Answers.{applies, first_of, AnsweredInOrder}
 use Rattle.channel.proofs.Turns.{seven, size_rejects_in}
 

@@ -2,7 +2,7 @@
 use Prim.Native.Nat.{ℕ, ◌+◌, ◌≤◌, ◌<◌}
 use mathlib.Core.Path.{◌≡◌, refl, sym, ◌∙◌, ap}
 use mathlib.Core.Bool.{Bool, true, false, cond}
-use mathlib.Core.List.{List, [], ◌∷◌, ◌++◌, append-nil}
+use mathlib.Core.List.{List, [], ◌∷◌, ◌++◌}
 use native.Mathlib.Omega.{arith}
 use borrow.Author.Tests.{le-leb, lt-leb}
 use lib.Dec.{leb}
@@ -18,8 +18,8 @@ use Rattle.channel.specs.declared.rooms.Room.{Room}
 use Rattle.channel.specs.declared.questions.Reply.{Reply}
 use Rattle.channel.specs.declared.questions.Asked.{Asked}
 use Rattle.channel.specs.declared.questions.Decision.{Decision}
-use Rattle.channel.specs.Rooms.{free_room, room_at, is_free, has_number, waits_for, of_call, some?, rooms_sound, first, in_first, freed, all_freed}
-use Rattle.channel.specs.Questions.{Outcome, refusal, carried, asked_of, decision_of, first_out, taken, replied, asked_as, ask_of, decided_as, decide_of, reject, rejects, rejects_in, reject_size, ended_of}
+use Rattle.channel.specs.Rooms.{free_room, room_at, is_free, has_number, waits_for, of_call, some?, rooms_sound, first, freed, all_freed}
+use Rattle.channel.specs.Questions.{Outcome, refusal, carried, asked_of, decision_of, first_out, taken, replied, ask_of, decide_of, reject, rejects, rejects_in, reject_size, ended_of}
 use Rattle.channel.proofs.Fours.{four, some_first, none_first, set_first}
 
 -- messages that do not fit, and those that do

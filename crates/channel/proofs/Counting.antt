@@ -4,13 +4,13 @@ use mathlib.Core.Path.{◌≡◌, refl, sym, ◌∙◌, ap}
 use mathlib.Core.Bool.{Bool, true, false, cond, not, ◌&&◌, ◌||◌}
 use mathlib.Core.List.{List, [], ◌∷◌}
 use native.Mathlib.Omega.{arith}
-use borrow.Author.Tests.{eq-eqb, eqb-true, le-leb}
-use lib.Dec.{eqb, leb}
+use borrow.Author.Tests.{eq-eqb, eqb-true}
+use lib.Dec.{eqb}
 use lib.ListN.{length}
 use Rattle.demands.proofs.Facts as facts
 use Rattle.channel.specs.declared.rooms.Wait.{Wait}
 use Rattle.channel.specs.declared.rooms.Room.{Room}
-use Rattle.channel.specs.Rooms.{wait_number, free_room, is_free, has_number, waits_for, of_call, room_fits, apart_from, some?, every?, apart, rooms_sound, in_first, freed, all_freed, count}
+use Rattle.channel.specs.Rooms.{free_room, is_free, has_number, waits_for, of_call, room_fits, apart_from, some?, every?, apart, rooms_sound, in_first, freed, all_freed, count}
 
 -- ---- some room, and how many
 

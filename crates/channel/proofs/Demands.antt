@@ -1,12 +1,5 @@
 -- The proofs of specs/Demands and specs/Answers.
-use Prim.Native.Nat.{ℕ}
-use mathlib.Core.Path.{◌≡◌, sym, ◌∙◌, ap}
-use mathlib.Core.Bool.{true}
-use mathlib.Core.List.{List}
-use native.Mathlib.Omega.{arith}
-use Rattle.channel.specs.Rooms.{rooms_sound}
-use Rattle.channel.specs.Runs.{Turn, outcome}
-use Rattle.channel.specs.Answers.{AnsweredInOrder, applies}
+use Rattle.channel.specs.Answers.{AnsweredInOrder}
 use Rattle.channel.specs.Demands as claims
 use Rattle.channel.proofs.Counting.{sound_is}
 use Rattle.channel.proofs.Kept.{always}

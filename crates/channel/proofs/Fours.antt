@@ -1,12 +1,12 @@
 -- Four rooms, one by one: what a walk over them knows at each, and what is stored at the first of a kind.
-use Prim.Native.Nat.{ℕ, suc, ◌≤◌, ◌<◌}
+use Prim.Native.Nat.{suc, ◌≤◌, ◌<◌}
 use mathlib.Core.Path.{◌≡◌, refl, ap}
 use mathlib.Core.Bool.{Bool, true, false, cond, ◌&&◌, ◌||◌, and-true, or-false}
 use mathlib.Core.List.{List, [], ◌∷◌}
 use native.Mathlib.Omega.{arith}
 use lib.ListN.{length, set}
 use Rattle.channel.specs.declared.rooms.Room.{Room}
-use Rattle.channel.specs.Rooms.{room_at, room_fits, apart_from, some?, every?, apart, rooms_sound, first, in_first}
+use Rattle.channel.specs.Rooms.{room_at, room_fits, apart_from, some?, rooms_sound, first, in_first}
 
 abbrev pub Four : List Room → Type 0
 Four rooms = rooms ≡ room_at rooms 0 ∷ room_at rooms 1 ∷ room_at rooms 2 ∷ room_at rooms 3 ∷ []

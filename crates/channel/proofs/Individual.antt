@@ -1,12 +1,12 @@
 -- A question that does not wait: the verdict in its own turn; an individually addressed one, by the step; and the one on the PDU that ends the call.
-use Prim.Native.Nat.{ℕ, ◌+◌, ◌*◌, ◌≤◌, ◌<◌}
+use Prim.Native.Nat.{ℕ, ◌≤◌, ◌<◌}
 use mathlib.Core.Path.{◌≡◌, refl, sym, ◌∙◌, ap}
 use mathlib.Core.Bool.{Bool, true, false, cond, ◌&&◌}
 use mathlib.Core.List.{List, [], ◌∷◌, ◌++◌}
 use native.Mathlib.Omega.{arith}
 use borrow.Author.Tests.{eq-eqb, le-leb}
-use lib.Dec.{eqb, leb}
-use lib.ListN.{length, take}
+use lib.Dec.{eqb}
+use lib.ListN.{length}
 use Rattle.records.specs.declared.messages.Message.{Message}
 use Rattle.records.specs.Bodies.{flat_size}
 use Rattle.records.specs.Messages.{message_size}
@@ -21,13 +21,13 @@ use Rattle.channel.specs.declared.questions.Reply.{Reply}
 use Rattle.channel.specs.declared.questions.Asked.{Asked}
 use Rattle.channel.specs.Rooms.{fresh_rooms, is_free, has_number, of_call, some?, every?, count, in_first, all_freed}
 use Rattle.channel.specs.Questions.{Outcome, carried, accept, reject, asked_of, asked_by, pdu_of, first_out, taken, rejects_in}
-use Rattle.channel.specs.Runs.{Turn, question, decision, end, lent_by, outcome, next, run, written_by, answers_in, verdicts, verdicts_in, Handed, AllHanded}
+use Rattle.channel.specs.Runs.{Turn, question, end, lent_by, outcome, run, verdicts, verdicts_in}
 use Rattle.channel.specs.Demands as claims
 use Rattle.channel.specs.Demands.{Waiting, is_question}
 use Rattle.channel.proofs.Asking.{ask_replied, end_rejects}
 use Rattle.channel.proofs.Counting.{none_count, mono, Sound, sound_is}
 use Rattle.channel.proofs.Turns.{Wrote, room_for, Went, stays, answers, waits, went, seven, end_size}
-use Rattle.channel.proofs.Reading.{small, given, one_answer, times}
+use Rattle.channel.proofs.Reading.{small, one_answer, times}
 use Rattle.channel.proofs.Kept.{next_stays, always, always_small}
 use Rattle.channel.proofs.Once.{asked_verdict, one_verdict, end_verdicts}
 use Rattle.channel.proofs.Waiting.{other_number, then}

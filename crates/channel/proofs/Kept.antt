@@ -1,22 +1,20 @@
 -- Every turn leaves sound rooms sound, and numbers of two bytes.
-use Prim.Native.Nat.{ℕ, ◌+◌, ◌≤◌, ◌<◌}
-use mathlib.Core.Path.{◌≡◌, refl, sym, ◌∙◌, ap}
+use Prim.Native.Nat.{ℕ, ◌+◌, ◌≤◌}
+use mathlib.Core.Path.{◌≡◌, refl, ◌∙◌, ap}
 use mathlib.Core.Bool.{Bool, true, false, cond}
 use mathlib.Core.List.{List, [], ◌∷◌}
 use native.Mathlib.Omega.{arith}
 use borrow.Author.Tests.{eqb-true, le-leb, lt-ltb}
 use lib.Dec.{eqb}
-use lib.ListN.{length}
-use Rattle.demands.proofs.Facts as facts
 use Rattle.channel.specs.declared.rooms.Wait.{Wait}
 use Rattle.channel.specs.declared.rooms.Room.{Room}
 use Rattle.channel.specs.declared.questions.Reply.{Reply}
 use Rattle.channel.specs.declared.questions.Asked.{Asked}
-use Rattle.channel.specs.Rooms.{wait_number, free_room, fresh_rooms, is_free, has_number, waits_for, of_call, room_fits, apart_from, some?, every?, rooms_sound, in_first, all_freed, count}
+use Rattle.channel.specs.Rooms.{wait_number, free_room, fresh_rooms, is_free, has_number, waits_for, room_fits, apart_from, some?, every?, rooms_sound, in_first, count}
 use Rattle.channel.specs.Questions.{Outcome, asked_of}
 use Rattle.channel.specs.Runs.{Turn, question, decision, end, outcome, next, run, Handed, AllHanded}
 use Rattle.channel.proofs.Counting.{none_count, count_first, length-first, every_first, count_freed, length-freed, every_freed, free_no_number, waits_number, Sound, sound_of, sound_is}
-use Rattle.channel.proofs.Turns.{Wrote, room_for, Went, stays, answers, waits, decides, ends, went}
+use Rattle.channel.proofs.Turns.{room_for, Went, stays, answers, waits, decides, ends, went}
 use Rattle.channel.proofs.Reading.{small}
 
 -- no question waits for nobody

@@ -1,11 +1,11 @@
 -- The questions of a number that were taken are as many as its answers, and one more while it waits: turn by turn.
-use Prim.Native.Nat.{ℕ, suc, ◌+◌, ◌<◌}
-use mathlib.Core.Path.{◌≡◌, refl, sym, ◌∙◌, ap}
+use Prim.Native.Nat.{ℕ, ◌+◌, ◌<◌}
+use mathlib.Core.Path.{◌≡◌, refl, ◌∙◌, ap}
 use mathlib.Core.Bool.{Bool, true, false, cond, ◌&&◌}
-use mathlib.Core.List.{List, [], ◌∷◌, ◌++◌, append-nil}
+use mathlib.Core.List.{List, [], ◌∷◌, append-nil}
 use native.Mathlib.Omega.{arith}
-use borrow.Author.Tests.{eqb-true, ne_eqb}
-use lib.Dec.{eqb, lit<}
+use borrow.Author.Tests.{ne_eqb}
+use lib.Dec.{eqb}
 use lib.ListN.{length, length-append}
 use Rattle.records.specs.declared.messages.Message.{Message}
 use Rattle.channel.specs.declared.rooms.Wait.{Wait}
@@ -14,8 +14,8 @@ use Rattle.channel.specs.declared.questions.Reply.{Reply}
 use Rattle.channel.specs.declared.questions.Asked.{Asked}
 use Rattle.channel.specs.declared.questions.Decision.{Decision}
 use Rattle.channel.specs.Rooms.{fresh_rooms, is_free, has_number, of_call, every?, count}
-use Rattle.channel.specs.Questions.{Outcome, asked_of, decision_of, first_out, rejects_in}
-use Rattle.channel.specs.Runs.{Turn, question, decision, end, outcome, next, run, Given, answers_in, verdicts_on, verdicts, verdicts_in, asks, asked, Handed, AllHanded}
+use Rattle.channel.specs.Questions.{asked_of, decision_of, first_out, rejects_in}
+use Rattle.channel.specs.Runs.{Turn, question, decision, end, outcome, next, run, Given, verdicts_on, verdicts, verdicts_in, asks, asked, Handed, AllHanded}
 use Rattle.channel.specs.Demands.{Once}
 use Rattle.channel.proofs.Counting.{count_freed, Sound, sound_is}
 use Rattle.channel.proofs.Turns.{Wrote, Went, stays, answers, waits, decides, ends, went}

@@ -1,10 +1,10 @@
 -- A waiting question: it waits through every turn that does not decide it, unanswered, and the turn that decides it answers it.
-use Prim.Native.Nat.{ℕ, ◌+◌, ◌≤◌, ◌<◌}
+use Prim.Native.Nat.{ℕ, ◌≤◌, ◌<◌}
 use mathlib.Core.Path.{◌≡◌, refl, sym, ◌∙◌, ap}
 use mathlib.Core.Bool.{Bool, true, false, cond, not, ◌&&◌, ◌||◌, or-true}
-use mathlib.Core.List.{List, [], ◌∷◌, ◌++◌, append-nil}
+use mathlib.Core.List.{List, [], ◌∷◌, ◌++◌}
 use native.Mathlib.Omega.{arith}
-use borrow.Author.Tests.{eq-eqb, ne_eqb, eqb-true, leb-true, leb-false}
+use borrow.Author.Tests.{eq-eqb, ne_eqb, eqb-true, leb-true}
 use lib.Dec.{eqb, leb}
 use lib.ListN.{length}
 use lib.Seq.{sets}
@@ -17,13 +17,13 @@ use Rattle.channel.specs.declared.rooms.Room.{Room}
 use Rattle.channel.specs.declared.questions.Reply.{Reply}
 use Rattle.channel.specs.declared.questions.Asked.{Asked}
 use Rattle.channel.specs.declared.questions.Decision.{Decision}
-use Rattle.channel.specs.Rooms.{wait_number, free_room, fresh_rooms, is_free, has_number, waits_for, of_call, room_fits, some?, every?, rooms_sound, in_first, freed, all_freed, count}
-use Rattle.channel.specs.Questions.{Outcome, refusal, carried, asked_of, decision_of, decided_as, decide_of, first_out, reject, rejects_in}
+use Rattle.channel.specs.Rooms.{wait_number, free_room, fresh_rooms, is_free, has_number, waits_for, of_call, room_fits, some?, every?, in_first, freed, all_freed, count}
+use Rattle.channel.specs.Questions.{Outcome, refusal, carried, asked_of, decision_of, decide_of, first_out, rejects_in}
 use Rattle.channel.specs.Runs.{Turn, question, decision, end, lent_by, outcome, next, run, written_by, verdicts, verdicts_in, Handed, AllHanded}
 use Rattle.channel.specs.Demands as claims
 use Rattle.channel.specs.Demands.{is_question, Waiting, gives, decides, undecided, verdict_in, verdict_by}
 use Rattle.channel.proofs.Asking.{end_rejects}
-use Rattle.channel.proofs.Counting.{some_count, count_some, none_count, mono, never, beside, count_first, count_freed, free_no_number, number_held, number_is, has_own, waits_number, call_held, Sound, sound_is}
+use Rattle.channel.proofs.Counting.{some_count, count_some, none_count, mono, never, beside, count_first, count_freed, free_no_number, number_held, waits_number, Sound, sound_is}
 use Rattle.channel.proofs.Turns.{Wrote, room_for, Went, stays, answers, waits, ends, went}
 use Rattle.channel.proofs.Turns as turns
 use Rattle.channel.proofs.Reading.{small, times, verdicts_stays}

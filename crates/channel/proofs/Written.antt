@@ -1,12 +1,11 @@
 -- What is written reads back, how much it is, and that a refusal writes nothing.
 use Prim.Native.Nat.{ℕ, ◌≤◌, ◌<◌}
 use mathlib.Core.Path.{◌≡◌, refl, sym, ◌∙◌, ap}
-use mathlib.Core.Bool.{Bool, true, false, cond, ◌&&◌}
+use mathlib.Core.Bool.{Bool, true, false, cond}
 use mathlib.Core.List.{List, [], ◌∷◌, ◌++◌}
 use native.Mathlib.Omega.{arith}
 use borrow.Author.Tests.{le-leb, ne_eqb, ltb-true}
-use lib.Dec.{eqb, leb}
-use lib.ListN.{length, take}
+use lib.ListN.{length}
 use Rattle.records.specs.declared.messages.Message.{Message}
 use Rattle.records.specs.Letters.{within}
 use Rattle.records.specs.Bodies.{all_fit, flat_fits}
@@ -19,10 +18,8 @@ use Rattle.demands.proofs.Facts as facts
 use Rattle.demands.proofs.ReadsBack.{read_after_read, stored}
 use Rattle.channel.specs.declared.rooms.Wait.{Wait}
 use Rattle.channel.specs.declared.rooms.Room.{Room}
-use Rattle.channel.specs.declared.questions.Answered.{Answered}
-use Rattle.channel.specs.declared.questions.ChannelAnswer.{ChannelAnswer}
 use Rattle.channel.specs.Rooms.{fresh_rooms, of_call, every?, rooms_sound}
-use Rattle.channel.specs.Questions.{Outcome, as_outcome, channel_number, refusal, carried, reject, first_out, rejects, rejects_in, ask_of, decide_of, ended_of}
+use Rattle.channel.specs.Questions.{Outcome, refusal, reject, first_out, rejects, rejects_in, ask_of, decide_of, ended_of}
 use Rattle.channel.specs.Runs.{Turn, question, decision, end, lent_by, outcome, run, written_by, Handed, said, said_if}
 use Rattle.channel.specs.Demands as claims
 use Rattle.channel.specs.Answers.{applies, first_of}

@@ -1,7 +1,6 @@
 -- What holds of every run of questions, decisions and ends from four free rooms, and some of it of all rooms, as types. proofs/Demands.antt has a proof
 -- of each. The answers are read from the bytes (Runs).
 use Rattle.std.specs.Prelude.{ℕ, ◌+◌, ◌≤◌, ◌<◌, ◌≡◌, Bool, true, false, cond, ◌&&◌, ◌||◌, not, List, [], ◌∷◌, ◌++◌, eqb, length, take}
-use Rattle.records.specs.declared.messages.Message.{Message}
 use Rattle.callcontrol.specs.declared.call.Call.{Call}
 use Rattle.callcontrol.specs.declared.step.Stepped.{Stepped}
 use Rattle.callcontrol.specs.Step as step
@@ -13,9 +12,9 @@ use Rattle.channel.specs.declared.questions.Answered.{Answered}
 use Rattle.channel.specs.declared.questions.Reply.{Reply}
 use Rattle.channel.specs.declared.questions.Asked.{Asked}
 use Rattle.channel.specs.declared.questions.Decision.{Decision}
-use Rattle.channel.specs.Rooms.{wait_number, fresh_rooms, is_free, has_number, waits_for, of_call, some?, rooms_sound, count}
+use Rattle.channel.specs.Rooms.{wait_number, fresh_rooms, is_free, has_number, waits_for, some?, rooms_sound, count}
 use Rattle.channel.specs.Questions.{Outcome, as_outcome, refusal, accept, reject, asked_of, decision_of, first_out, pdu_of}
-use Rattle.channel.specs.Runs.{Turn, question, decision, end, lent_by, outcome, next, run, written_by, Given, answers_in, verdicts, verdicts_in, asked, Handed, AllHanded, said}
+use Rattle.channel.specs.Runs.{Turn, question, decision, end, lent_by, outcome, next, run, written_by, answers_in, verdicts, verdicts_in, asked, Handed, AllHanded, said}
 
 -- the rooms after a run
 abbrev pub after : List Turn → List Room

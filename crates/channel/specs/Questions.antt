@@ -1,5 +1,5 @@
 -- Questions, decisions and ends: the answers in their order, the rooms then, and what goes out.
-use Rattle.std.specs.Prelude.{ℕ, Bool, cond, List, [], ◌∷◌, ◌++◌, leb, eqb, length}
+use Rattle.std.specs.Prelude.{ℕ, cond, List, [], ◌∷◌, ◌++◌, leb, eqb, length}
 use Rattle.std.proofs.lemmas.List.Edits.{sets}
 use Rattle.records.specs.declared.messages.Message.{Message}
 use Rattle.callcontrol.specs.Writing.{bytes_of}

@@ -2,7 +2,6 @@
 use Rattle.std.specs.Prelude.{ℕ, zero, suc, ◌+◌, ◌<◌, Bool, false, cond, ◌&&◌, List, [], ◌∷◌, ◌++◌, ltb, eqb, length, take, drop}
 use Rattle.records.specs.declared.messages.Message.{Message}
 use Rattle.records.specs.Bytes.{number}
-use Rattle.channel.specs.declared.rooms.Wait.{Wait}
 use Rattle.channel.specs.declared.rooms.Room.{Room}
 use Rattle.channel.specs.declared.questions.Reply.{Reply}
 use Rattle.channel.specs.declared.questions.Asked.{Asked}

@@ -24,7 +24,7 @@ use Rattle.console.specs.declared.route.Led.{Led}
 use Rattle.console.specs.Table.{call_at, holds, alike, some?, every?, apart, lowest, table_sound}
 use Rattle.console.specs.Route.{aim_of, at_lowest_idle, outgoing, incoming, at_holder, aimed, route_of}
 use Rattle.console.specs.Console.{ConsoleOutcome, refuses_at, at_place, everywhere, routed, when_read, console_of}
-use Rattle.console.specs.Keys.{key_of, keys_from, lowest_key, some_key, apart_by, held_by, idle_by, at_idle_by, outgoing_by, incoming_by, at_holder_by, aimed_by, route_by, Lead, goes_to, goes_everywhere, goes_nowhere, as_lead, along, lead_by}
+use Rattle.console.specs.Keys.{key_of, keys_from, lowest_key, some_key, apart_by, at_idle_by, outgoing_by, incoming_by, at_holder_by, aimed_by, route_by, Lead, goes_to, goes_everywhere, goes_nowhere, as_lead, along, lead_by}
 use Rattle.console.proofs.Places.{rest, nothing_left}
 use Rattle.console.proofs.Routing.{to_place, to_all}
 use Rattle.console.proofs.Tables.{sound_all}

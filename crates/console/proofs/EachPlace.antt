@@ -1,6 +1,5 @@
 -- What the step's claims say of a place: its record and its messages are those of the step's run over the turns that went to it.
-use Prim.Native.Nat.{ℕ, ◌<◌}
-use mathlib.Core.Path.{◌≡◌, refl, ◌∙◌, ap}
+use mathlib.Core.Path.{refl, ◌∙◌, ap}
 use mathlib.Core.Bool.{not}
 use mathlib.Core.List.{List, [], ◌∷◌, ◌++◌}
 use Rattle.callcontrol.specs.declared.call.Call.{Call}
@@ -10,7 +9,7 @@ use Rattle.demands.specs.Demands.{Kept}
 use Rattle.demands.proofs.Writes.{All, both}
 use Rattle.demands.proofs.Demands as step-demands
 use Rattle.console.specs.Table.{fresh_table}
-use Rattle.console.specs.Runs.{ConsoleTurn, went_in}
+use Rattle.console.specs.Runs.{went_in}
 use Rattle.console.specs.Demands as claims
 use Rattle.console.proofs.Demands.{records, split, went-append, ended_at}
 use Rattle.console.proofs.Heard.{messages_at}

@@ -10,7 +10,7 @@ use borrow.Author.Tests.{eq-eqb, ne_eqb, le-leb, lt-leb, eqb-true, ltb-true, ltb
 use borrow.Rule.Slice.PartMut.{put_mid}
 use lib.Dec.{eqb, ltb, lit≤}
 use lib.ListN.{length, take, drop, set, length-append, length-drop, take-append-drop, drop_of_length-le}
-use lib.Seq.{sets, sets-eq, length-sets, take_all, take-suc, take-length, take-append_seam, length-take-le, drop-cons, set_at, get_or_at}
+use lib.Seq.{sets, sets-eq, length-sets, take_all, take-suc, take-append_seam, length-take-le, drop-cons, set_at, get_or_at}
 use Rattle.records.specs.declared.events.Event.{Event}
 use Rattle.records.specs.declared.messages.Message.{Message}
 use Rattle.records.specs.Messages.{message_bytes}

@@ -9,7 +9,6 @@ use lib.Dec.{leb, ltb, eqb}
 use lib.ListN.{length, drop, set, length-set}
 use lib.Seq.{get_or-set_same, get_or-set_other}
 use Rattle.records.specs.declared.events.Event.{Event}
-use Rattle.records.specs.Tables.{taken}
 use Rattle.callcontrol.specs.declared.call.Call.{Call}
 use Rattle.callcontrol.specs.Call.{fresh_call, is_idle, as_fresh, sound, ◌⇒◌}
 use Rattle.callcontrol.specs.Rows.{row_for}
@@ -24,7 +23,7 @@ use Rattle.console.specs.declared.route.ConsoleAnswer.{ConsoleAnswer}
 use Rattle.console.specs.declared.route.Route.{Route}
 use Rattle.console.specs.Table.{no_call, call_at, fresh_table, holds, alike, some?, every?, apart, table_sound, lowest}
 use Rattle.console.specs.Route.{aim_of, or_else, at_lowest_idle, outgoing, incoming, at_holder, aimed, route_of}
-use Rattle.console.specs.Console.{placed, takes, next_of, refuses}
+use Rattle.console.specs.Console.{placed, takes, next_of}
 use Rattle.console.specs.Runs.{ConsoleTurn, console_next, console_run, went_to}
 use Rattle.console.proofs.Placing.{Decides, decides}
 use Rattle.console.proofs.Routing.{to_place}

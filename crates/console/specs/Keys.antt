@@ -1,6 +1,6 @@
 -- A table by its keys: a record outside IDLE has its identifier, one in IDLE a number that no identifier is and no other place has. On sound
 -- records the keys tell where an event goes and whether two are alike, as the records do (proofs/ByKeys).
-use Rattle.std.specs.Prelude.{ℕ, suc, ◌+◌, ◌≤◌, ◌<◌, ◌≡◌, Bool, true, false, cond, not, ◌&&◌, ◌||◌, List, [], ◌∷◌, leb, ltb, eqb}
+use Rattle.std.specs.Prelude.{ℕ, suc, ◌+◌, Bool, true, false, cond, not, ◌&&◌, ◌||◌, List, [], ◌∷◌, leb, ltb, eqb}
 use Rattle.records.specs.declared.events.Event.{Event}
 use Rattle.records.specs.Tables.{Read, taken, refused}
 use Rattle.callcontrol.specs.declared.call.Call.{Call}

@@ -12,7 +12,7 @@ use Rattle.records.specs.declared.messages.Message.{Message}
 use Rattle.callcontrol.specs.declared.call.State.{State}
 use Rattle.callcontrol.specs.declared.call.Path.{Path}
 use Rattle.callcontrol.specs.declared.call.Call.{Call}
-use Rattle.callcontrol.specs.Call.{T301, T302, T303, T306, T308, T310, T311}
+use Rattle.callcontrol.specs.Call.{T306, T310, T311}
 use Rattle.callcontrol.specs.Draft.{Draft}
 use Rattle.callcontrol.specs.Draft.{◌▷◌, draft, no_row, go, on_path, store_mode, store_asked, store_code, store_slots, start, stop, restart, same_plane, plane, off, grant, grant_or_off, tell, tell_modified}
 use Rattle.callcontrol.specs.Rows

@@ -12,7 +12,7 @@ use Rattle.callcontrol.specs.declared.call.Path.{Path}
 use Rattle.callcontrol.specs.declared.call.Call.{Call}
 use Rattle.callcontrol.specs.Draft.{Slot, Draft}
 use Rattle.callcontrol.specs.Call.{fresh_call, runs, T302, T311}
-use Rattle.callcontrol.specs.Draft.{◌▷◌, draft, store_mode, store_asked, store_code, store_slots, stop, start, expired, restart, same_plane, plane, off, grant, grant_or_off, cancel, tell, release}
+use Rattle.callcontrol.specs.Draft.{◌▷◌, draft, store_mode, store_asked, store_code, store_slots, stop, start, expired, restart, same_plane, plane, off, grant, grant_or_off, tell, release}
 use Rattle.callcontrol.specs.Rows
 use Rattle.callcontrol.specs.Rows.{row_for}
 use Rattle.demands.specs.Runs.{Turn, next, run}

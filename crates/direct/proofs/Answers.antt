@@ -1,9 +1,9 @@
 -- Every step gives the first answer that applies; a refusal gives the record back and writes nothing; what is taken gives the record and the
 -- bytes of the event's row; no row writes more than 27 bytes.
-use Prim.Native.Nat.{ℕ, ◌<◌, ◌≤◌}
+use Prim.Native.Nat.{ℕ, ◌≤◌}
 use mathlib.Core.Path.{◌≡◌, refl, sym, ◌∙◌, ap}
 use mathlib.Core.Bool.{Bool, true, false, cond, not, ◌&&◌, ◌||◌}
-use mathlib.Core.List.{List, [], ◌∷◌}
+use mathlib.Core.List.{List}
 use mathlib.Core.Option.{some}
 use native.Mathlib.Omega.{arith}
 use borrow.Author.Tests.{le-leb}
@@ -13,7 +13,6 @@ use Rattle.records.specs.Bodies.{flat_size}
 use Rattle.records.specs.Tables.{Read, taken, refused, read}
 use Rattle.records.proofs.Places.{place_only_with_four}
 use Rattle.direct.specs.declared.events.Event.{Event}
-use Rattle.direct.specs.declared.events.Event.TheVariants.{SetupRequest}
 use Rattle.direct.specs.declared.call.Call.{Call}
 use Rattle.direct.specs.Events.{events}
 use Rattle.direct.specs.Messages.{message_size, bytes_of, sizes_of}

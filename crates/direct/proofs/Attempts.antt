@@ -2,18 +2,18 @@
 -- as many turns.
 use Prim.Native.Nat.{ℕ, zero, suc, ◌+◌, ◌-◌, ◌*◌, ◌<◌, ◌≤◌}
 use mathlib.Core.Path.{◌≡◌, refl, sym, ◌∙◌, ap}
-use mathlib.Core.Bool.{Bool, true, false, cond, not, ◌&&◌}
+use mathlib.Core.Bool.{Bool, true, false, cond, not}
 use mathlib.Core.List.{List, [], ◌∷◌, ◌++◌}
-use mathlib.Core.Option.{Option, none, some}
+use mathlib.Core.Option.{some}
 use native.Mathlib.Omega.{arith}
-use borrow.Author.Tests.{ltb-true, ltb-false, eqb-true}
-use lib.Dec.{leb, ltb, eqb}
+use borrow.Author.Tests.{ltb-true, ltb-false}
+use lib.Dec.{ltb, eqb}
 use lib.ListN.{length}
 use Rattle.records.specs.Bodies.{flat_size}
-use Rattle.records.specs.Tables.{Read, taken, read}
+use Rattle.records.specs.Tables.{taken, read}
 use Rattle.records.proofs.Laws.{both}
 use Rattle.direct.specs.declared.events.Event.{Event}
-use Rattle.direct.specs.declared.events.Event.TheVariants.{SetupRequest, DmaReport, DmConnect, DmDisconnect, Expiry}
+use Rattle.direct.specs.declared.events.Event.TheVariants.{SetupRequest, DmaReport, Expiry}
 use Rattle.direct.specs.declared.messages.Message.{Message}
 use Rattle.direct.specs.declared.call.State.{State}
 use Rattle.direct.specs.declared.call.Call.{Call}
@@ -24,9 +24,9 @@ use Rattle.direct.specs.Draft.{Draft, messages_in}
 use Rattle.direct.specs.Rows.{asked, awaited, given_up, connected, released, again, exhausted, row_for}
 use Rattle.direct.specs.Step.{beyond}
 use Rattle.direct.specs.Runs.{Turn, next, run, taken_by, written_by, written_in, is_idle, count, is_dm_setup_pres, log_in, Asked, note_asked, asked_after, asked_by, note_begun, pres_after, pres_by}
-use Rattle.direct.specs.Demands.{Kept, one_call, AtMostLimit, FromIdle, quiet, requested, OnlyInCalls, QuietUntilAsked, BegunInIdle, NoMoreThanAsked, expected, Waits, over, wait, turns_left, BackToIdle, AtMostTwice, AsOftenAsLimit}
+use Rattle.direct.specs.Demands.{Kept, one_call, AtMostLimit, FromIdle, quiet, requested, OnlyInCalls, QuietUntilAsked, BegunInIdle, NoMoreThanAsked, expected, Waits, wait, turns_left, BackToIdle, AtMostTwice, AsOftenAsLimit}
 use Rattle.direct.proofs.Situations.{sound_in_lem, row_reporting, row_waiting}
-use Rattle.direct.proofs.Turns.{apart, Accepted, Passed, Turned, passed, took, turned, accepts, taking, Which, asks, awaits, gives_up_lem, connects, rejects, disconnects, retries, exhausts, row_of}
+use Rattle.direct.proofs.Turns.{apart, Turned, passed, took, turned, accepts, taking, Which, asks, awaits, gives_up_lem, connects, rejects, disconnects, retries, exhausts, row_of}
 use Rattle.direct.proofs.Kept.{is_not, Limits, limits, fresh_kept, reached, turn_keeps, check_limits, idle_fresh, idle_is, check_is, request_limits}
 use Rattle.direct.proofs.Timers.{due_303}
 

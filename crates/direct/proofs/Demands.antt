@@ -1,13 +1,13 @@
 -- Every claim holds.
 use Prim.Native.Nat.{ℕ, ◌%◌, ◌<◌}
-use mathlib.Core.Path.{◌≡◌, refl}
+use mathlib.Core.Path.{◌≡◌}
 use mathlib.Core.Bool.{true}
 use native.Mathlib.Omega.{arith}
 use borrow.Author.Tests.{le-leb}
 use Rattle.records.specs.Letters.{within}
 use Rattle.records.specs.Bytes.{bytes}
 use Rattle.records.specs.Bodies.{all_fit, flat_fits, body_bytes, flat_size, flat_bytes}
-use Rattle.records.specs.Tables.{Table, read, taken, fine}
+use Rattle.records.specs.Tables.{Table, fine}
 use Rattle.records.specs.Laws as laws
 use Rattle.records.proofs.RoundTrip as round
 use Rattle.records.proofs.Places as places

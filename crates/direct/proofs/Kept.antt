@@ -1,28 +1,28 @@
 -- Every turn gives a sound record from a sound one, and in IDLE that is the fresh record.
 use Prim.Native.Nat.{ℕ, ◌+◌, ◌<◌, ◌≤◌}
 use mathlib.Core.Path.{◌≡◌, refl, sym, ◌∙◌, ap}
-use mathlib.Core.Bool.{Bool, true, false, cond, not, ◌&&◌, ◌||◌}
+use mathlib.Core.Bool.{Bool, true, false, not, ◌&&◌, ◌||◌}
 use mathlib.Core.List.{List, [], ◌∷◌}
 use native.Mathlib.Omega.{arith}
-use borrow.Author.Tests.{leb-true, leb-false, ltb-true, ltb-false, le-leb, eqb-true}
-use lib.Dec.{leb, ltb, eqb}
+use borrow.Author.Tests.{leb-true, ltb-true, le-leb, eqb-true}
+use lib.Dec.{leb, eqb}
 use Rattle.records.specs.Letters.{within}
 use Rattle.records.specs.Bodies.{all_fit, flat_fits}
 use Rattle.records.specs.Tables.{fine}
 use Rattle.records.proofs.Laws.{both}
 use Rattle.direct.specs.declared.events.Event.{Event}
-use Rattle.direct.specs.declared.events.Event.TheVariants.{SetupRequest, DmaReport, DmConnect, DmDisconnect, Expiry}
+use Rattle.direct.specs.declared.events.Event.TheVariants.{SetupRequest}
 use Rattle.direct.specs.declared.call.State.{State}
 use Rattle.direct.specs.declared.call.Call.{Call}
 use Rattle.direct.specs.Events.{events}
-use Rattle.direct.specs.Call.{fresh_call, state_number, as_fresh, in_limits, sound_in, sound}
+use Rattle.direct.specs.Call.{fresh_call, state_number, as_fresh, in_limits, sound}
 use Rattle.direct.specs.Draft.{Draft}
-use Rattle.direct.specs.Rows.{asked, awaited, given_up, connected, released, again, exhausted, acceptable, row_for}
+use Rattle.direct.specs.Rows.{asked, awaited, given_up, connected, released, again, exhausted, row_for}
 use Rattle.direct.specs.Step.{beyond}
 use Rattle.direct.specs.Runs.{Turn, next, run, is_idle, is_check}
-use Rattle.direct.specs.Demands.{Kept, FreshIsSound, StepKeepsSound, Sound, NeverUnsound, IdleIsFresh}
+use Rattle.direct.specs.Demands.{Kept, FreshIsSound, StepKeepsSound, Sound, IdleIsFresh}
 use Rattle.direct.proofs.Situations.{sound_in_lem}
-use Rattle.direct.proofs.Turns.{apart, event_fine, Accepted, Passed, Turned, passed, took, turned, Which, asks, awaits, gives_up_lem, connects, rejects, disconnects, retries, exhausts, row_of}
+use Rattle.direct.proofs.Turns.{apart, event_fine, Turned, passed, took, turned, Which, asks, awaits, gives_up_lem, connects, rejects, disconnects, retries, exhausts, row_of}
 
 pub is_not : (b : Bool) → not b ≡ true → b ≡ false
 is_not true h = apart h refl

@@ -1,9 +1,9 @@
 -- What reading by a table gives, whatever the bytes: 2, 3 or 4, each where its own test applies and none below it does; or a value whose
 -- fields are in range, where none of the three applies. For any lawful table that has retired no kind and whose values need nothing beyond their letters'
 -- ranges.
-use Prim.Native.Nat.{ℕ, ◌+◌}
+use Prim.Native.Nat.{ℕ}
 use mathlib.Core.Path.{◌≡◌, refl, ap}
-use mathlib.Core.Bool.{Bool, true, false, cond, not, ◌&&◌, and-true}
+use mathlib.Core.Bool.{Bool, true, false, cond, not, ◌&&◌}
 use mathlib.Core.List.{List, [], ◌∷◌, map}
 use mathlib.Core.Option.{Option, none, some}
 use native.Mathlib.Omega.{arith}
@@ -11,8 +11,8 @@ use borrow.Author.Tests.{eq-eqb}
 use lib.Dec.{leb, eqb}
 use lib.ListN.{length}
 use Rattle.records.specs.Bytes.{number}
-use Rattle.records.specs.Bodies.{Values, Found, bad_at, kind_in, body_of, size, values_at, numbers_at, all_fit, flat_fits}
-use Rattle.records.specs.Tables.{Table, Read, taken, refused, or_refuse, or_place, sized, listed, known, find, size_of, read_body, read_among, read_as, read, flat, fine}
+use Rattle.records.specs.Bodies.{Values, Found, bad_at, kind_in, body_of, values_at, numbers_at, all_fit, flat_fits}
+use Rattle.records.specs.Tables.{Table, Read, taken, refused, or_refuse, or_place, sized, listed, known, find, read_body, read_among, read_as, read, flat, fine}
 use Rattle.records.specs.Laws.{Lawful, missing}
 use Rattle.records.proofs.Places.{values_fit, wrong_misfits}
 use Rattle.records.proofs.RoundTrip.{found_size}

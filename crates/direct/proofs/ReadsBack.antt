@@ -1,7 +1,7 @@
 -- What a turn of a run writes reads back: the bytes that it counts are, record after record, the messages of its row.
-use Prim.Native.Nat.{ℕ, ◌+◌, ◌<◌, ◌≤◌}
-use mathlib.Core.Path.{◌≡◌, refl, ◌∙◌, ap}
-use mathlib.Core.Bool.{Bool, true, false, cond, ◌&&◌}
+use Prim.Native.Nat.{ℕ, ◌<◌, ◌≤◌}
+use mathlib.Core.Path.{◌≡◌, refl, ◌∙◌}
+use mathlib.Core.Bool.{Bool, true, false, cond}
 use mathlib.Core.List.{List, [], ◌∷◌, ◌++◌}
 use mathlib.Core.Option.{none, some}
 use native.Mathlib.Omega.{arith}
@@ -12,11 +12,11 @@ use lib.Seq.{sets, sets-eq, take-append_seam, drop-append_seam}
 use Rattle.records.specs.Bytes.{number}
 use Rattle.records.specs.Letters.{within, is_direct_timer}
 use Rattle.records.specs.Bodies.{all_fit, flat_fits, kind_in}
-use Rattle.records.specs.Tables.{Table, Read, taken, or_refuse, read_as, read, fine}
+use Rattle.records.specs.Tables.{Table, taken, or_refuse, read_as, read, fine}
 use Rattle.records.proofs.Laws.{both}
 use Rattle.records.proofs.RoundTrip.{written_reads_back}
 use Rattle.direct.specs.declared.events.Event.{Event}
-use Rattle.direct.specs.declared.events.Event.TheVariants.{SetupRequest, DmConnect}
+use Rattle.direct.specs.declared.events.Event.TheVariants.{DmConnect}
 use Rattle.direct.specs.declared.messages.Message.{Message}
 use Rattle.direct.specs.declared.messages.Message.TheVariants.{DmSetupPres, DmConnectAck}
 use Rattle.direct.specs.declared.call.Call.{Call}
@@ -28,7 +28,7 @@ use Rattle.direct.specs.Rows.{asked, awaited, given_up, connected, released, aga
 use Rattle.direct.specs.Runs.{Turn, outcome, next, run, written_by, written_in, every?}
 use Rattle.direct.specs.Demands.{Kept, Reads, WrittenInRange, ReadsBack}
 use Rattle.direct.proofs.Tables.{message_lawful}
-use Rattle.direct.proofs.Turns.{event_fine, Accepted, Passed, Turned, passed, took, turned, Which, asks, awaits, gives_up_lem, connects, rejects, disconnects, retries, exhausts, row_of}
+use Rattle.direct.proofs.Turns.{event_fine, Turned, passed, took, turned, Which, asks, awaits, gives_up_lem, connects, rejects, disconnects, retries, exhausts, row_of}
 use Rattle.direct.proofs.Kept.{fresh_kept, reached, turn_keeps, request_bytes, within_byte}
 
 -- ---- every field in its range

@@ -1,8 +1,8 @@
 -- What goes to the called set and to the lower layers: an answer or an expiry is closed with one DM-RELEASE or DM-CONNECT ACK, an offer that is accepted gives
 -- CONFIGURE of its grade, and in ACTIVE nothing is written any more.
-use Prim.Native.Nat.{ℕ, ◌+◌}
+use Prim.Native.Nat.{ℕ}
 use mathlib.Core.Path.{◌≡◌, refl, sym, ◌∙◌, ap}
-use mathlib.Core.Bool.{Bool, true, false, cond, ◌&&◌}
+use mathlib.Core.Bool.{true, false, cond, ◌&&◌}
 use mathlib.Core.List.{List, [], ◌∷◌}
 use mathlib.Core.Option.{some}
 use lib.Dec.{leb, ltb, eqb}
@@ -15,7 +15,7 @@ use Rattle.direct.specs.declared.call.Call.{Call}
 use Rattle.direct.specs.Call.{fresh_call, state_number}
 use Rattle.direct.specs.Draft.{Draft, messages_in}
 use Rattle.direct.specs.Rows.{asked, awaited, given_up, connected, released, again, exhausted, acceptable, row_for}
-use Rattle.direct.specs.Runs.{Turn, next, run, taken_by, written_by, written_in, is_idle, is_active, enters_active, count, is_setup_confirm, is_closing, is_configure, closes, gives_up, log_in, asked_by, pres_by}
+use Rattle.direct.specs.Runs.{Turn, next, run, taken_by, written_by, written_in, is_idle, is_active, count, is_setup_confirm, is_closing, is_configure, closes, gives_up, log_in, asked_by, pres_by}
 use Rattle.direct.specs.Demands.{OneClosing, OneConfigure, ExpiryWrites, WithinConnects, GivenUpIsFresh, ActiveStays}
 use Rattle.direct.proofs.Turns.{apart, Turned, passed, took, turned, accepts, Which, asks, awaits, gives_up_lem, connects, rejects, disconnects, retries, exhausts, row_of}
 use Rattle.direct.proofs.Attempts.{log_counted}

@@ -5,7 +5,6 @@ use Rattle.direct.specs.declared.events.Event.{Event}
 use Rattle.direct.specs.declared.call.State.{State}
 use Rattle.direct.specs.declared.call.Call.{Call}
 use Rattle.direct.specs.Call.{sound_in, sound}
-use Rattle.direct.specs.Draft.{Draft}
 use Rattle.direct.specs.Rows.{reporting, waiting, in_state, row_for}
 
 module _ (c : Call) where

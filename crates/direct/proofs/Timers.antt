@@ -2,31 +2,30 @@
 -- DT303 does not run is refused.
 use Prim.Native.Nat.{ℕ, ◌+◌, ◌≤◌}
 use mathlib.Core.Path.{◌≡◌, refl, sym, ◌∙◌, ap}
-use mathlib.Core.Bool.{Bool, true, false, cond, not, ◌&&◌, ◌||◌}
+use mathlib.Core.Bool.{Bool, true, false, cond, not}
 use mathlib.Core.List.{List, [], ◌∷◌}
-use mathlib.Core.Option.{Option, none, some}
+use mathlib.Core.Option.{some}
 use native.Mathlib.Omega.{arith}
-use borrow.Author.Tests.{eqb-true, le-leb}
-use lib.Dec.{leb, ltb, eqb}
+use borrow.Author.Tests.{eqb-true}
+use lib.Dec.{ltb, eqb}
 use lib.ListN.{length}
 use Rattle.records.proofs.Laws.{both}
 use Rattle.records.specs.Bodies.{flat_size}
-use Rattle.records.specs.Tables.{Read, taken, read}
+use Rattle.records.specs.Tables.{taken, read}
 use Rattle.direct.specs.declared.events.Event.{Event}
 use Rattle.direct.specs.declared.events.Event.TheVariants.{SetupRequest, DmaReport, DmConnect, DmDisconnect, Expiry}
-use Rattle.direct.specs.declared.messages.Message.{Message}
 use Rattle.direct.specs.declared.call.State.{State}
 use Rattle.direct.specs.declared.call.Call.{Call}
 use Rattle.direct.specs.Events.{events}
 use Rattle.direct.specs.Messages.{message_size, sizes_of}
 use Rattle.direct.specs.Call.{fresh_call, state_number, in_limits, sound}
 use Rattle.direct.specs.Draft.{Draft, messages_in, no_row}
-use Rattle.direct.specs.Rows.{asked, awaited, given_up, connected, released, again, exhausted, acceptable, idle, reporting, waiting, in_state, row_for}
+use Rattle.direct.specs.Rows.{asked, awaited, given_up, connected, released, again, exhausted, acceptable, reporting, waiting, row_for}
 use Rattle.direct.specs.Step.{refusal, beyond}
-use Rattle.direct.specs.Runs.{Turn, outcome, next, run, taken_by, written_by, is_idle, is_check, is_answer, is_stop, count, Entry, log_in, note_message, note_messages, note_taken, note_log, runs_by}
+use Rattle.direct.specs.Runs.{Turn, outcome, next, run, taken_by, written_by, is_check, is_answer, is_stop, count, log_in, note_message, note_messages, note_taken, note_log, runs_by}
 use Rattle.direct.specs.Demands.{Kept, TimersByMessages, NoneInIdle, StopsRunning, is_late, Late, DueExpiry, DueAnswer, DueReport, ReportElsewhere}
 use Rattle.direct.proofs.Situations.{sound_in_lem, row_in, row_waiting, row_reporting}
-use Rattle.direct.proofs.Turns.{apart, Accepted, Passed, Turned, passed, took, turned, no_row_lem, taking, Which, asks, awaits, gives_up_lem, connects, rejects, disconnects, retries, exhausts, row_of}
+use Rattle.direct.proofs.Turns.{apart, Turned, passed, took, turned, no_row_lem, taking, Which, asks, awaits, gives_up_lem, connects, rejects, disconnects, retries, exhausts, row_of}
 use Rattle.direct.proofs.Kept.{fresh_kept, reached, turn_keeps, is_not, check_311, idle_fresh, idle_is, check_is}
 
 -- ---- one turn

@@ -1,25 +1,24 @@
 -- What the user is told: one RELEASE indication where a call ends, one SETUP confirm where it becomes active, and that only for an offer from
 -- lowest to target of the request.
 use Prim.Native.Nat.{ℕ, ◌+◌, ◌≤◌}
-use mathlib.Core.Path.{◌≡◌, refl, sym, ◌∙◌, ap}
+use mathlib.Core.Path.{◌≡◌, refl, ◌∙◌, ap}
 use mathlib.Core.Bool.{Bool, true, false, cond, not, ◌&&◌}
 use mathlib.Core.List.{List, [], ◌∷◌}
-use mathlib.Core.Option.{Option, none, some}
+use mathlib.Core.Option.{some}
 use native.Mathlib.Omega.{arith}
 use borrow.Author.Tests.{leb-true, eq-eqb}
 use lib.Dec.{leb, eqb}
 use Rattle.records.proofs.Laws.{both}
 use Rattle.direct.specs.declared.events.Event.{Event}
-use Rattle.direct.specs.declared.events.Event.TheVariants.{SetupRequest, DmaReport, DmConnect, DmDisconnect, Expiry}
+use Rattle.direct.specs.declared.events.Event.TheVariants.{DmConnect}
 use Rattle.direct.specs.declared.call.State.{State}
 use Rattle.direct.specs.declared.call.Call.{Call}
 use Rattle.direct.specs.Call.{fresh_call, state_number}
 use Rattle.direct.specs.Draft.{Draft, messages_in}
 use Rattle.direct.specs.Rows.{asked, awaited, given_up, connected, released, again, exhausted, acceptable, row_for}
-use Rattle.direct.specs.Runs.{Turn, next, run, taken_by, written_by, is_idle, is_active, enters_idle, enters_active, count, is_setup_confirm, is_release_indication, is_confirm_of, Entry, log_in, Asked, note_asked, asked_after, asked_by}
-use Rattle.direct.specs.Demands.{Kept, OneIndication, OneConfirm, HeldAsAsked, ActiveWithin, OutsideReleases}
-use Rattle.direct.proofs.Turns.{apart, Accepted, Passed, Turned, passed, took, turned, accepts, Which, asks, awaits, gives_up_lem, connects, rejects, disconnects, retries, exhausts, row_of}
-use Rattle.direct.proofs.Kept.{reached}
+use Rattle.direct.specs.Runs.{Turn, next, run, taken_by, written_by, is_idle, is_active, enters_idle, enters_active, count, is_setup_confirm, is_release_indication, is_confirm_of, log_in, Asked, note_asked, asked_after, asked_by}
+use Rattle.direct.specs.Demands.{OneIndication, OneConfirm, HeldAsAsked, ActiveWithin, OutsideReleases}
+use Rattle.direct.proofs.Turns.{apart, Turned, passed, took, turned, accepts, Which, asks, awaits, gives_up_lem, connects, rejects, disconnects, retries, exhausts, row_of}
 
 -- ---- one indication, one confirm
 

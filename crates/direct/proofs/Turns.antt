@@ -1,19 +1,18 @@
 -- What a turn does: it takes an event that has a row, and leaves the record and the bytes of that row; or it is refused, and leaves the
 -- record as it was.
 use Prim.Native.Nat.{ℕ, ◌+◌, ◌≤◌}
-use mathlib.Core.Path.{◌≡◌, refl, ◌∙◌, ap, sym}
-use mathlib.Core.Bool.{Bool, true, false, cond, not, ◌&&◌, ◌||◌}
+use mathlib.Core.Path.{◌≡◌, refl, ◌∙◌, ap}
+use mathlib.Core.Bool.{Bool, true, false, cond}
 use mathlib.Core.List.{List, [], ◌∷◌, ◌++◌}
 use mathlib.Core.Option.{none, some}
 use native.Mathlib.Omega.{arith}
-use borrow.Author.Tests.{eqb-true, eqb-false, le-leb}
+use borrow.Author.Tests.{eqb-true, le-leb}
 use lib.Dec.{leb, ltb, eqb}
 use lib.ListN.{length}
 use lib.Seq.{sets}
 use Rattle.records.specs.Tables.{Read, taken, refused, read, fine}
 use Rattle.direct.specs.declared.events.Event.{Event}
 use Rattle.direct.specs.declared.events.Event.TheVariants.{SetupRequest, DmaReport, DmConnect, DmDisconnect, Expiry}
-use Rattle.direct.specs.declared.messages.Message.{Message}
 use Rattle.direct.specs.declared.call.State.{State}
 use Rattle.direct.specs.declared.call.Call.{Call}
 use Rattle.direct.specs.Events.{events}

@@ -1,5 +1,5 @@
 -- The record of an outgoing direct mode call: fresh, its limits, and what makes it sound.
-use Rattle.std.specs.Prelude.{ℕ, Bool, true, false, not, ◌&&◌, leb, eqb}
+use Rattle.std.specs.Prelude.{ℕ, Bool, false, not, ◌&&◌, leb, eqb}
 use Rattle.direct.specs.declared.call.State.{State}
 use Rattle.direct.specs.declared.call.Call.{Call}
 

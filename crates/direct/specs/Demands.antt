@@ -1,9 +1,9 @@
 -- What is claimed of direct mode, over every run, as types. proofs/Demands.antt has a proof of each.
-use Rattle.std.specs.Prelude.{ℕ, ◌+◌, ◌-◌, ◌*◌, ◌<◌, ◌≤◌, ◌≡◌, Bool, true, false, cond, not, ◌&&◌, ◌||◌, List, [], ◌∷◌, ◌++◌, leb, ltb, eqb, length, take, drop}
+use Rattle.std.specs.Prelude.{ℕ, ◌+◌, ◌-◌, ◌*◌, ◌<◌, ◌≤◌, ◌≡◌, Bool, true, false, cond, not, ◌&&◌, List, [], ◌∷◌, leb, ltb, eqb, length, take, drop}
 use Rattle.std.proofs.Math.Option.{Option, none, some}
 use Rattle.std.proofs.lemmas.List.Edits.{sets}
 use Rattle.records.specs.Bytes.{number}
-use Rattle.records.specs.Bodies.{size, numbers_at, all_fit}
+use Rattle.records.specs.Bodies.{numbers_at, all_fit}
 use Rattle.records.specs.Tables.{Table, Read, taken, refused, listed, known, find, read, fine}
 use Rattle.records.specs.Laws.{missing, numbers, NoneShared, WrittenReadsBack, WriterReadsBack, ReadIsWrittenBack, ReadWritesBack, PlaceIsWrong, WrongHasPlace, PlaceOnlyWithFour as ReaderPlaceOnlyWithFour}
 use Rattle.records.specs.Events as document01
@@ -12,7 +12,6 @@ use Rattle.direct.specs.declared.events.Event.{Event}
 use Rattle.direct.specs.declared.events.Event.TheVariants.{SetupRequest, DmaReport, DmConnect, DmDisconnect, Expiry}
 use Rattle.direct.specs.declared.messages.Message.{Message}
 use Rattle.direct.specs.declared.messages.Message.TheVariants.{DmSetupPres, DmConnectAck, DmRelease, Stop, Start, Configure, SetupConfirm, ReleaseIndication}
-use Rattle.direct.specs.declared.call.State.{State}
 use Rattle.direct.specs.declared.call.Call.{Call}
 use Rattle.direct.specs.Events.{events}
 use Rattle.direct.specs.Messages.{messages, bytes_of}

@@ -1,6 +1,6 @@
 -- The steps: for each situation, what each event does. Beside a row stands the sentence of EN 300 396-3, clause 6.2.2.1, that it is, or H for the
 -- house's choice between two that the clause leaves open.
-use Rattle.std.specs.Prelude.{ℕ, ◌+◌, Bool, true, false, cond, ◌&&◌, leb, ltb, eqb}
+use Rattle.std.specs.Prelude.{ℕ, ◌+◌, Bool, cond, ◌&&◌, leb, ltb, eqb}
 use Rattle.direct.specs.declared.events.Event.{Event}
 use Rattle.direct.specs.declared.events.Event.TheVariants.{SetupRequest, DmaReport, DmConnect, DmDisconnect, Expiry}
 use Rattle.direct.specs.declared.messages.Message.TheVariants.{DmSetupPres, DmConnectAck, DmRelease, SetupConfirm, ReleaseIndication}

@@ -8,7 +8,7 @@ use Rattle.direct.specs.declared.messages.Message.{Message}
 use Rattle.direct.specs.declared.messages.Message.TheVariants.{DmSetupPres, DmConnectAck, DmRelease, Stop, Start, Configure, SetupConfirm, ReleaseIndication}
 use Rattle.direct.specs.declared.call.Call.{Call}
 use Rattle.direct.specs.Events.{events}
-use Rattle.direct.specs.Call.{fresh_call, state_number}
+use Rattle.direct.specs.Call.{state_number}
 use Rattle.direct.specs.Draft.{messages_in}
 use Rattle.direct.specs.Rows.{row_for}
 use Rattle.direct.specs.Step.{Outcome, step_of}

@@ -1,5 +1,5 @@
 -- The step: the answers in their order, and what each gives back.
-use Rattle.std.specs.Prelude.{ℕ, Bool, true, false, cond, not, ◌&&◌, ◌||◌, List, leb, length}
+use Rattle.std.specs.Prelude.{ℕ, Bool, false, cond, not, ◌||◌, List, leb, length}
 use Rattle.std.proofs.lemmas.List.Edits.{sets}
 use Rattle.records.specs.Tables.{Read, taken, refused, read}
 use Rattle.direct.specs.declared.events.Event.{Event}

@@ -1,6 +1,6 @@
 -- That the claims are not true for the wrong reason: calls that are accepted, rejected, unanswered and not sent, event by event. Each line says
 -- what is handed in and what then shows; refused turns stand among the others and change nothing.
-use Rattle.std.specs.Prelude.{ℕ, zero, suc, ◌+◌, ◌*◌, ◌≡◌, Bool, true, false, cond, ◌&&◌, ◌||◌, List, [], ◌∷◌, ◌++◌, eqb, get_or, take}
+use Rattle.std.specs.Prelude.{ℕ, zero, suc, ◌≡◌, Bool, true, false, ◌&&◌, ◌||◌, List, [], ◌∷◌, eqb, get_or, take}
 use Rattle.std.specs.Bool.{beq}
 use Rattle.std.proofs.Math.Option.{some}
 use Rattle.direct.specs.declared.events.Event.{Event}

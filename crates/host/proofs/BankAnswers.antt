@@ -1,8 +1,8 @@
 -- What the bank's entries answer, from what their callees give.
-use Prim.Native.Nat.{ℕ, ◌+◌, ◌*◌, ◌≤◌}
-use mathlib.Core.Path.{◌≡◌, refl, sym, ◌∙◌, ap}
+use Prim.Native.Nat.{ℕ, ◌≤◌}
+use mathlib.Core.Path.{◌≡◌, sym, ◌∙◌}
 use mathlib.Core.Bool.{Bool, true, false, cond, not}
-use mathlib.Core.List.{List, []}
+use mathlib.Core.List.{List}
 use native.Mathlib.Omega.{arith}
 use borrow.Author.Tests.{not-true, not-false, eq-eqb, ne_eqb, eqb-true}
 use lib.Dec.{eqb, ltb, lit≤}
@@ -11,7 +11,7 @@ use lib.Seq.{sets}
 use Rattle.timers.specs.declared.bank.Bank.{Bank}
 use Rattle.timers.specs.Wrap.{forward, is_back}
 use Rattle.timers.specs.Due.{one_if, count_of}
-use Rattle.timers.specs.Bank.{Outcome, refusal, keys_at, advanced, advanced_to, handed_at}
+use Rattle.timers.specs.Bank.{Outcome, keys_at, advanced}
 use Rattle.host.specs.Bank.{packed_bank, is_bank, held_bank, unpacked_bank, bank_word, BankLeft, left_by, on_bank}
 use Rattle.demands.proofs.Facts.{left, right}
 

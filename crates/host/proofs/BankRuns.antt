@@ -13,7 +13,7 @@ use Rattle.records.specs.Bytes.{bytes}
 use Rattle.timers.specs.declared.bank.Bank.{Bank}
 use Rattle.timers.specs.Wrap.{shown}
 use Rattle.timers.specs.Due.{staying}
-use Rattle.timers.specs.Bank.{Outcome, new_bank, index_of, without, with, length_in, advanced_to}
+use Rattle.timers.specs.Bank.{Outcome, new_bank, index_of, length_in, advanced_to}
 use Rattle.timers.specs.Time.{Call, stop, start, reading, outcome, is_taken, Kept, made, next, run}
 use Rattle.timers.proofs.Tests.{decide, All}
 use Rattle.timers.proofs.Calls.{unchanged, stop_taken, start_taken, reading_taken}

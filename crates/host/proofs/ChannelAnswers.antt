@@ -1,5 +1,5 @@
 -- What the rooms' entries answer, from what their callees give.
-use Prim.Native.Nat.{ℕ, ◌+◌, ◌≤◌}
+use Prim.Native.Nat.{ℕ, ◌≤◌}
 use mathlib.Core.Path.{◌≡◌, refl, sym, ◌∙◌}
 use mathlib.Core.Bool.{Bool, true, false, not}
 use mathlib.Core.List.{List, ◌++◌}
@@ -12,7 +12,7 @@ use Rattle.records.specs.Bytes.{bytes}
 use Rattle.channel.specs.declared.rooms.Room.{Room}
 use Rattle.channel.specs.declared.questions.Answered.{Answered}
 use Rattle.channel.specs.Questions.{Outcome, as_outcome, ask_of, decide_of, ended_of}
-use Rattle.channel.specs.Runs.{Turn, question, decision, end, outcome}
+use Rattle.channel.specs.Runs.{question, decision, end, outcome}
 use Rattle.channel.proofs.Written.{few}
 use Rattle.host.specs.Channel.{packed_room, is_rooms, held_rooms, unpacked_rooms, RoomsLeft, rooms_left_by, on_rooms, leaving}
 use Rattle.host.proofs.BankBytes.{sets-append}

@@ -1,8 +1,8 @@
 -- What is packed is unpacked as the same rooms, and what is unpacked is packed as the same bytes.
 use Prim.Native.Nat.{ℕ, ◌+◌, ◌*◌, ◌/◌, ◌%◌, ◌≤◌, ◌<◌}
-use mathlib.Core.Path.{◌≡◌, refl, ap}
+use mathlib.Core.Path.{◌≡◌, refl}
 use mathlib.Core.Bool.{Bool, true, false, cond}
-use mathlib.Core.List.{List, [], ◌∷◌}
+use mathlib.Core.List.{[], ◌∷◌}
 use mathlib.Core.Option.{some}
 use native.Mathlib.Omega.{arith}
 use borrow.Author.Tests.{leb-true, eqb-true, ltb-true, eqb-false}
@@ -13,7 +13,7 @@ use Rattle.channel.specs.declared.rooms.Wait.{Wait}
 use Rattle.channel.specs.declared.rooms.Room.{Room}
 use Rattle.channel.specs.Rooms.{wait_number}
 use Rattle.host.specs.Channel.{packed_room, packed_rooms, is_rooms, wait_is, held_room, held_rooms, unpacked_rooms}
-use Rattle.host.specs.ChannelLaws.{room_small, FittingRooms, PackedRoomsAreUnpacked, HeldRoomsArePacked}
+use Rattle.host.specs.ChannelLaws.{room_small, PackedRoomsAreUnpacked, HeldRoomsArePacked}
 use Rattle.host.proofs.Packing.{items_drop, bytes_number}
 use Rattle.demands.proofs.Facts.{left, right}
 

@@ -1,10 +1,9 @@
 -- A host's run over the 20 bytes is the run of the rooms: all rooms of a run fit their bytes, so they are unpacked as they stand, and what a turn leaves is
 -- packed over them. And a step's result has its answer in front.
-use Prim.Native.Nat.{ℕ, ◌+◌, ◌*◌, ◌/◌, ◌≤◌, ◌<◌}
+use Prim.Native.Nat.{ℕ, ◌+◌, ◌*◌, ◌/◌, ◌≤◌}
 use mathlib.Core.Path.{◌≡◌, refl, sym, ◌∙◌, ap}
 use mathlib.Core.Bool.{Bool, true, false, cond, ◌&&◌}
 use mathlib.Core.List.{List, [], ◌∷◌, append-nil}
-use mathlib.Core.Option.{Option, some}
 use native.Mathlib.Omega.{arith}
 use borrow.Author.Tests.{eq-eqb, ne_eqb, eqb-true, eqb-false, leb-true, lt-ltb}
 use lib.Dec.{eqb, leb, ltb}
@@ -15,13 +14,12 @@ use Rattle.callcontrol.specs.declared.call.Call.{Call}
 use Rattle.callcontrol.specs.Step as step
 use Rattle.channel.specs.declared.rooms.Room.{Room}
 use Rattle.channel.specs.Rooms.{fresh_rooms, is_free, room_fits, every?}
-use Rattle.channel.specs.Questions.{Outcome, asked_by, pdu_of}
-use Rattle.channel.specs.Runs.{Turn, lent_by, outcome, next, run, Handed, AllHanded}
+use Rattle.channel.specs.Questions.{Outcome, pdu_of}
+use Rattle.channel.specs.Runs.{Turn, outcome, next, run, AllHanded}
 use Rattle.channel.proofs.Counting.{Sound}
 use Rattle.channel.proofs.Kept.{fresh_sound, next_sound, next_small, run_sound, run_small}
 use Rattle.channel.proofs.Reading.{small}
 use Rattle.channel.proofs.Written.{refused}
-use Rattle.host.specs.Packing.{unpacked}
 use Rattle.host.specs.Entries.{host_step}
 use Rattle.host.specs.Channel.{packed_room, packed_rooms, RoomsLeft, rooms_freshened, rooms_left_by, on_rooms}
 use Rattle.host.specs.ChannelLaws as laws

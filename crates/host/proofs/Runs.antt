@@ -7,19 +7,19 @@ use mathlib.Core.List.{List, [], ◌∷◌, ◌++◌}
 use native.Mathlib.Omega.{arith}
 use borrow.Author.Tests.{eq-eqb, eqb-false}
 use lib.Dec.{eqb}
-use lib.ListN.{length, get_or, take, drop, drop_of_length-le}
+use lib.ListN.{length, get_or, drop, drop_of_length-le}
 use lib.Seq.{sets, sets-eq}
 use Rattle.records.specs.Bytes.{bytes}
 use Rattle.callcontrol.specs.declared.call.Call.{Call}
 use Rattle.callcontrol.specs.Call.{fresh_call}
 use Rattle.callcontrol.specs.Step.{Outcome}
-use Rattle.demands.specs.Runs.{Turn, outcome, next, run, taken_in, written_by}
+use Rattle.demands.specs.Runs.{Turn, outcome, next, run}
 use Rattle.demands.specs.Demands.{Kept}
 use Rattle.demands.proofs.Demands.{refuses, fresh_is_sound, step_keeps_sound, told_by_history, reads_back}
 use Rattle.demands.proofs.Sound.{always}
-use Rattle.host.specs.Packing.{names, settings, running, packed, unpacked}
+use Rattle.host.specs.Packing.{names, settings, running, packed}
 use Rattle.host.specs.Entries.{Left, stepped, freshened, host_step}
-use Rattle.host.specs.Runs.{host_run, after, RunIsPacked, TurnIsStep, TurnReadsBack, PlaneByHistory}
+use Rattle.host.specs.Runs.{host_run, RunIsPacked, TurnIsStep, TurnReadsBack, PlaneByHistory}
 use Rattle.host.proofs.Packing.{packed_length, sound_is_unpacked}
 use Rattle.host.proofs.Small.{step_small}
 

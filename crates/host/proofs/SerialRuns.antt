@@ -1,6 +1,6 @@
 -- A host's line is the run of the reader: a reader that is given back carries at most 63 bytes, so its 2 bytes are unpacked as it stands, and each number of a
 -- result has its own byte.
-use Prim.Native.Nat.{ℕ, zero, suc, ◌+◌, ◌≤◌}
+use Prim.Native.Nat.{ℕ, zero, suc, ◌≤◌}
 use mathlib.Core.Path.{◌≡◌, refl, sym, ◌∙◌, ap}
 use mathlib.Core.Bool.{Bool, true, false, cond, ◌||◌}
 use mathlib.Core.List.{List, [], ◌∷◌, ◌++◌}

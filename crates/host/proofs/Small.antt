@@ -16,10 +16,9 @@ use Rattle.records.specs.Events.{events}
 use Rattle.records.specs.Laws.{every, Lawful}
 use Rattle.records.proofs.Laws.{length-flat_bytes}
 use Rattle.callcontrol.specs.declared.call.Call.{Call}
-use Rattle.callcontrol.specs.Draft.{Draft}
 use Rattle.callcontrol.specs.Call.{sound}
 use Rattle.callcontrol.specs.Rows.{row_for}
-use Rattle.callcontrol.specs.Writing.{held, messages_in, bytes_of, count_of}
+use Rattle.callcontrol.specs.Writing.{messages_in, bytes_of}
 use Rattle.callcontrol.specs.Step.{Outcome, refusal_at, other_call, over_transmission, carried, decided, when_read, step_of}
 use Rattle.callcontrol.proofs.Laying.{messages_small}
 use Rattle.host.specs.Entries.{wrote_word}

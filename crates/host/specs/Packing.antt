@@ -1,6 +1,6 @@
 -- A call record as a host's 22 bytes: state, identifier u16, address u32, mode, asked, sent, path, plane, kept plane, T310 code, the
 -- timers 301 302 303 306 308 310 311, and the slots; little-endian.
-use Rattle.std.specs.Prelude.{ℕ, zero, suc, ◌+◌, Bool, cond, ◌&&◌, List, [], ◌∷◌, ◌++◌, leb, eqb, length, get_or}
+use Rattle.std.specs.Prelude.{ℕ, zero, suc, Bool, cond, ◌&&◌, List, [], ◌∷◌, ◌++◌, leb, eqb, length, get_or}
 use Rattle.std.proofs.Math.Option.{Option, none, some}
 use Rattle.records.specs.Bytes.{number, bytes}
 use Rattle.callcontrol.specs.declared.call.State.{State}

@@ -6,7 +6,7 @@ use Rattle.demands.specs.Runs.{Turn, outcome, run, taken_in, written_by}
 use Rattle.demands.specs.History.{plane_by_history}
 use Rattle.demands.specs.Demands.{Reads}
 use Rattle.host.specs.Packing.{packed}
-use Rattle.host.specs.Entries.{PLACE, Left, stepped, freshened, host_step}
+use Rattle.host.specs.Entries.{PLACE, stepped, freshened, host_step}
 
 -- the record's bytes after some turns
 unfoldable pub host_run : List ℕ → List Turn → List ℕ

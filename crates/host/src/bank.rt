@@ -138,12 +138,7 @@ pub fn callcontrol_bank_stop(bank: &mut [u8], timer: u16) -> u32
 }
 
 // START, with the timer's length in the lent table.
-pub fn callcontrol_bank_start(
-    bank: &mut [u8],
-    table: &[u32],
-    timer: u16,
-    code: u8,
-) -> u32
+pub fn callcontrol_bank_start(bank: &mut [u8], table: &[u32], timer: u16, code: u8) -> u32
     ensures { ◌≡◌ {A = BankLeft} (record { result = result; bank = bank.new; list = [] }) (on_bank bank.old [] (λ b. started b table.now timer code)) }
 {
     if !is_bank(bank) {

@@ -1,6 +1,6 @@
 -- BREAK and RESUME at every place: what is left of the bytes, from what the console's turns give.
-use Prim.Native.Nat.{ℕ, ◌+◌, ◌*◌, ◌≤◌, ◌<◌}
-use mathlib.Core.Path.{◌≡◌, refl, sym, ◌∙◌, ap}
+use Prim.Native.Nat.{ℕ, ◌≤◌, ◌<◌}
+use mathlib.Core.Path.{◌≡◌, ◌∙◌, ap}
 use mathlib.Core.Bool.{Bool, true, cond}
 use mathlib.Core.List.{List, ◌++◌}
 use native.Mathlib.Omega.{arith}
@@ -12,7 +12,7 @@ use Rattle.console.specs.declared.console.AllStepped.{AllStepped}
 use Rattle.console.specs.declared.route.Aim.{Aim}
 use Rattle.console.specs.Table.{call_at}
 use Rattle.console.specs.Route.{aim_of}
-use Rattle.console.specs.Console.{ConsoleOutcome, all_next, everywhere, LaidAll}
+use Rattle.console.specs.Console.{ConsoleOutcome, everywhere, LaidAll}
 use Rattle.console.proofs.Everywhere.{none_takes, no_space, all_take}
 use Rattle.console.proofs.Rooms.{every_room}
 use Rattle.console.proofs.Turns.{next_at}

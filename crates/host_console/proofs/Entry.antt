@@ -1,6 +1,6 @@
 -- Where the bytes of an event lead, on a table that was read: what each arm of the entry leaves is what the definition leaves.
-use Prim.Native.Nat.{ℕ, ◌+◌, ◌*◌, ◌<◌, ◌≤◌}
-use mathlib.Core.Path.{◌≡◌, refl, sym, ◌∙◌, ap}
+use Prim.Native.Nat.{ℕ, ◌+◌, ◌*◌, ◌<◌}
+use mathlib.Core.Path.{◌≡◌, ◌∙◌}
 use mathlib.Core.List.{List}
 use native.Mathlib.Omega.{arith}
 use lib.ListN.{get_or}
@@ -15,7 +15,7 @@ use Rattle.console.specs.Console.{at_place, everywhere, console_of}
 use Rattle.console.specs.Keys.{as_lead, lead_by}
 use Rattle.console.proofs.ByKeys.{lead_goes, lead_fits, led_by}
 use Rattle.host.specs.Entries.{word}
-use Rattle.host_console.specs.Table.{held_table, packed_into, TableLeft, console_left, console_host_step}
+use Rattle.host_console.specs.Table.{held_table, TableLeft, console_left, console_host_step}
 use Rattle.host_console.proofs.Tables.{Known, whole, leads_nowhere}
 use Rattle.host_console.proofs.OnePlace.{same_table}
 

@@ -1,6 +1,6 @@
 -- Answer, place and count are read off each result: every place is below 256, and every count is small.
-use Prim.Native.Nat.{ℕ, zero, suc, ◌+◌, ◌*◌, ◌/◌, ◌%◌, ◌≤◌, ◌<◌}
-use mathlib.Core.Path.{◌≡◌, refl, sym, ◌∙◌, ap}
+use Prim.Native.Nat.{ℕ, ◌+◌, ◌*◌, ◌/◌, ◌%◌, ◌≤◌, ◌<◌}
+use mathlib.Core.Path.{◌≡◌, refl, ◌∙◌, ap}
 use mathlib.Core.Bool.{Bool, true, false, cond}
 use mathlib.Core.List.{List, [], ◌∷◌, ◌++◌}
 use mathlib.Core.Option.{Option, none, some}
@@ -9,7 +9,7 @@ use borrow.Author.Tests.{eqb-true, eqb-false}
 use lib.Dec.{leb, eqb}
 use lib.ListN.{length}
 use lib.Seq.{sets}
-use Rattle.records.specs.Letters.{Letter, width}
+use Rattle.records.specs.Letters.{Letter}
 use Rattle.records.specs.Bodies.{Wrote, wrote, not_written, size, flat_size, flat_bytes, written}
 use Rattle.records.specs.Tables.{Table, Read, taken, refused, read, write, flat, fine}
 use Rattle.records.specs.Laws.{Lawful, WrongBody, wrong_size, wrong_field, wrong_together}

@@ -7,18 +7,18 @@ use mathlib.Core.List.{List, [], ◌∷◌, ◌++◌}
 use native.Mathlib.Omega.{arith}
 use borrow.Author.Tests.{eq-eqb, eqb-false}
 use lib.Dec.{eqb}
-use lib.ListN.{length, get_or, take, drop, drop_of_length-le}
+use lib.ListN.{length, get_or, drop, drop_of_length-le}
 use lib.Seq.{sets, sets-eq}
 use Rattle.direct.specs.declared.call.Call.{Call}
 use Rattle.direct.specs.Call.{fresh_call}
 use Rattle.direct.specs.Step.{Outcome}
-use Rattle.direct.specs.Runs.{Turn, outcome, next, run, written_by}
+use Rattle.direct.specs.Runs.{Turn, outcome, next, run}
 use Rattle.direct.specs.Demands.{Kept}
 use Rattle.direct.proofs.Demands.{refuses, fresh_is_sound, step_keeps_sound, reads_back, timers_by_messages}
 use Rattle.direct.proofs.Kept.{reached}
-use Rattle.host_direct.specs.Packing.{packed, unpacked, flag}
+use Rattle.host_direct.specs.Packing.{packed, flag}
 use Rattle.host_direct.specs.Entries.{Left, stepped, freshened, host_step}
-use Rattle.host_direct.specs.Runs.{host_run, after, RunIsPacked, TurnIsStep, TurnReadsOff, TurnReadsBack, TimersInBytes}
+use Rattle.host_direct.specs.Runs.{host_run, RunIsPacked, TurnIsStep, TurnReadsOff, TurnReadsBack, TimersInBytes}
 use Rattle.host_direct.proofs.Packing.{packed_length, packed_is_unpacked}
 use Rattle.host_direct.proofs.ReadOff.{outcome_off}
 

@@ -1,6 +1,6 @@
 -- Every count is small, so that a result is a u32.
-use Prim.Native.Nat.{ℕ, ◌+◌, ◌≤◌, ◌<◌, ◌^◌}
-use mathlib.Core.Path.{◌≡◌, sym, ap}
+use Prim.Native.Nat.{ℕ, ◌≤◌, ◌<◌, ◌^◌}
+use mathlib.Core.Path.{◌≡◌, ap}
 use mathlib.Core.Bool.{Bool, true, false, cond}
 use mathlib.Core.List.{List}
 use native.Mathlib.Omega.{arith}
@@ -16,7 +16,7 @@ use Rattle.direct.specs.declared.call.Call.{Call}
 use Rattle.direct.specs.Events.{events}
 use Rattle.direct.specs.Messages.{messages}
 use Rattle.direct.specs.Step.{Outcome, step_of}
-use Rattle.direct.specs.Runs.{Turn, outcome}
+use Rattle.direct.specs.Runs.{outcome}
 use Rattle.direct.proofs.Demands.{at_most_27}
 use Rattle.host_direct.specs.Entries.{wrote_word}
 

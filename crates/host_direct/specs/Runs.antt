@@ -5,7 +5,7 @@ use Rattle.direct.specs.Call.{fresh_call}
 use Rattle.direct.specs.Runs.{Turn, outcome, run, written_by, log_in, runs_by}
 use Rattle.direct.specs.Demands.{Reads}
 use Rattle.host_direct.specs.Packing.{packed, flag}
-use Rattle.host_direct.specs.Entries.{count_of, Left, stepped, freshened, host_step}
+use Rattle.host_direct.specs.Entries.{count_of, stepped, freshened, host_step}
 use Rattle.host_direct.specs.Laws.{ReadsOff}
 
 -- the record's bytes after some turns

@@ -8,7 +8,7 @@ use borrow.Author.Tests.{not-true, not-false}
 use lib.ListN.{get_or}
 use Rattle.records.specs.Bytes.{number}
 use Rattle.records.specs.Letters.{Letter, width, fits}
-use Rattle.records.specs.Bodies.{Values, Found, is, bad_at, and_then, value_at, values_at}
+use Rattle.records.specs.Bodies.{Values, is, bad_at, value_at, values_at}
 
 -- the number that one byte stands for
 pub number_one : (s : List ℕ) (at : ℕ) → get_or s at 0 ≡ number 1 s at

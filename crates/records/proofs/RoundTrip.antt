@@ -17,7 +17,7 @@ use Rattle.records.specs.declared.letters.Word.{Word}
 use Rattle.records.specs.declared.letters.Long.{Long}
 use Rattle.records.specs.Letters.{Letter, byte, word, long, width, fits, span_of, within, is_timer, is_direct_timer}
 use Rattle.records.specs.Bytes.{number, bytes}
-use Rattle.records.specs.Bodies.{Values, Flat, Wrote, wrote, not_written, Found, is, bad_at, size, and_then, value_at, values_at, kind_in, body_of, all_fit, body_bytes, flat_size, flat_fits, flat_bytes, written}
+use Rattle.records.specs.Bodies.{Values, Wrote, wrote, not_written, Found, is, bad_at, size, and_then, value_at, values_at, kind_in, body_of, all_fit, body_bytes, flat_size, flat_fits, flat_bytes, written}
 use Rattle.records.specs.Tables.{Table, Read, taken, refused, or_refuse, or_place, find, known, listed, size_of, sized, read_body, read_among, read_as, read, flat_of, flat, fine, write}
 use Rattle.records.specs.Laws.{every, Lawful, WrittenReadsBack, WriterReadsBack, ReadIsWrittenBack, ReadWritesBack}
 use Rattle.records.specs.Events.{events}

@@ -1,11 +1,9 @@
 -- Both engines are one step, since their promise leaves no choice; and the tables say that step.
 use Prim.Native.Nat.{ℕ}
-use mathlib.Core.Path.{◌≡◌, refl, sym, ◌∙◌, ap}
+use mathlib.Core.Path.{◌≡◌, refl, ◌∙◌, ap}
 use mathlib.Core.Bool.{cond}
 use mathlib.Core.List.{List, [], ◌∷◌}
 use mathlib.Core.Option.{Option, none, some}
-use lib.Dec.{eqb}
-use lib.ListN.{length}
 use Rattle.records.specs.declared.events.Event.{Event}
 use Rattle.records.specs.Bodies.{kind_in}
 use Rattle.records.specs.Tables.{Read, taken, refused, or_refuse, read, read_as}
@@ -13,7 +11,7 @@ use Rattle.records.specs.Events.{events}
 use Rattle.callcontrol.specs.declared.call.Call.{Call}
 use Rattle.callcontrol.specs.declared.row.Row.{Row}
 use Rattle.callcontrol.specs.declared.step.Stepped.{Stepped}
-use Rattle.callcontrol.specs.Call.{sound, is_idle}
+use Rattle.callcontrol.specs.Call.{sound}
 use Rattle.callcontrol.specs.Settle.{settled}
 use Rattle.callcontrol.specs.Step.{Outcome, refusal, carried, when_read, step_of, as_outcome}
 use Rattle.callcontrol.proofs.Determined.{step}
@@ -22,7 +20,7 @@ use Rattle.small.specs.declared.flat.Flat.{Flat}
 use Rattle.small.specs.Flat.{flat_of}
 use Rattle.small.specs.Line.{table_row}
 use Rattle.small.specs.Reading.{kind_by, flatted}
-use Rattle.small.specs.Small.{names_other, over_flat, decided_by, carried_by, tabled, when_flat, small_of}
+use Rattle.small.specs.Small.{decided_by, carried_by, tabled, when_flat, small_of}
 use Rattle.small.specs.Engines.{Engine, Promised, given, Equal, engine_run, Gives, Keeps, RunBy, none, turn, SameStep, TablesAreStep, SameRun, OneRun}
 use Rattle.small.proofs.Carrying.{whole}
 use Rattle.small.proofs.Deciding.{decided_is}

@@ -1,9 +1,9 @@
 -- The table's reading is the definitions' reading, with the event's numbers.
-use Prim.Native.Nat.{ℕ, zero, suc, ◌+◌, ◌-◌, ◌/◌, ◌%◌, ◌<◌, ◌≤◌}
+use Prim.Native.Nat.{ℕ, zero, suc, ◌+◌, ◌-◌, ◌%◌, ◌<◌, ◌≤◌}
 use mathlib.Core.Path.{◌≡◌, refl, sym, ◌∙◌, ap}
 use mathlib.Core.Bool.{Bool, true, false, cond, ◌&&◌, true≢false}
 use mathlib.Core.List.{List, [], ◌∷◌, map}
-use mathlib.Core.Option.{Option, none, some}
+use mathlib.Core.Option.{none, some}
 use native.Mathlib.Nat.{le_of_suc-le-suc, not-suc-le-zero}
 use native.Mathlib.Omega.{arith}
 use borrow.Author.Tests.{eqb-true, leb-true}
@@ -12,7 +12,7 @@ use lib.ListN.{length, get_or, set}
 use Rattle.records.specs.Bytes.{number}
 use Rattle.records.specs.Letters.{Letter, width, fits, within, is_timer, a₁, a, i, i₀, n, d, q, k, g, r, o, o₁₆, s}
 use Rattle.records.specs.Bodies.{Values, Found, is, bad_at, and_then, value_at, values_at, body_of}
-use Rattle.records.specs.Tables.{Read, taken, refused, or_place, sized, size_of, known, find, read_body, read_among, read_as}
+use Rattle.records.specs.Tables.{Read, taken, refused, or_place, sized, size_of, known, read_body, read_among, read_as}
 use Rattle.records.specs.Events.{EventKind, event_row, event_kinds, event_of, events}
 use Rattle.records.specs.Laws.{every}
 use Rattle.records.specs.declared.events.Event.{Event}

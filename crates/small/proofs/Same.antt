@@ -1,8 +1,7 @@
 -- The row that the table gives is the one of the definitions.
-use Prim.Native.Nat.{ℕ, zero, suc, ◌+◌, ◌<◌}
+use Prim.Native.Nat.{ℕ, ◌+◌, ◌<◌}
 use mathlib.Core.Path.{◌≡◌, refl, sym, ◌∙◌, ap, subst}
 use mathlib.Core.Bool.{Bool, true, false, cond, not, ◌&&◌, ◌||◌}
-use mathlib.Core.List.{List, [], ◌∷◌}
 use lib.Dec.{T, eqb, eqb→eq}
 use lib.ListN.{set}
 use native.Mathlib.Nat.{add-zero}
@@ -12,12 +11,11 @@ use Rattle.records.specs.declared.messages.Message.{Message}
 use Rattle.callcontrol.specs.declared.call.Call.{Call}
 use Rattle.callcontrol.specs.declared.call.State.{State}
 use Rattle.callcontrol.specs.declared.call.Path.{Path}
-use Rattle.callcontrol.specs.declared.row.Row.{Row}
 use Rattle.callcontrol.specs.Call.{runs, T301, T302, T303, T306, T308, T310, T311}
 use Rattle.callcontrol.specs.Draft.{Draft, ◌▷◌, draft, no_row, cancel, stop, start, tell, say, over, plane, expired}
-use Rattle.callcontrol.specs.Rows.{idle, mo_call_setup, mt_call_setup, demands, ceases, informed, active_up, active_broken, active_restoring, wait, call_disconnect, expiry, timed_out, active_expiry, confirmed, active, row_for}
+use Rattle.callcontrol.specs.Rows.{idle, mo_call_setup, mt_call_setup, demands, ceases, active_up, active_broken, active_restoring, wait, call_disconnect, expiry, timed_out, active_expiry, confirmed, active, row_for}
 use Rattle.callcontrol.specs.Rows.{in_state as state_row}
-use Rattle.callcontrol.specs.Settle.{draft_of, none_row, row_of, STAY, CANCEL, STOP_303, RELEASE_CONFIRM, RELEASE_INDICATION, OVER, U_CONNECT, START_301, restarting, code_after, slots_after}
+use Rattle.callcontrol.specs.Settle.{draft_of, row_of, STAY, CANCEL, STOP_303, RELEASE_CONFIRM, RELEASE_INDICATION, OVER, U_CONNECT, START_301, restarting, code_after, slots_after}
 use Rattle.callcontrol.proofs.Verbs.{verbs}
 use Rattle.callcontrol.proofs.Settled.{numbers, none_is, releasing_is, released_is, disconnected_is, timed_out_301_is, timed_out_302_is, timed_out_303_is, timed_out_306_is, timed_out_310_is, setup_request_is, d_setup_is, proceeding_is, alert_is, connected_is, reported_is, acknowledged_is, demanded_is, ceased_is, withdrawn_is, informed_same_is, informed_other_is, granted_is, tx_ceased_is, interrupted_for_is, interrupted_is, paused_is, cut_is, spoken_out_is, reasked_is, resumed_is, restored_is, broken_again_is, continued_is, continued_off_is, pause_cut_is, disconnected_unsent_is, released_unsent_is, confirmed_is, confirmed_late_is}
 use Rattle.small.specs.declared.flat.Flat.{Flat}

@@ -1,16 +1,15 @@
 -- The entries' answers in their order: 1, 31 and 32 for both, and what follows for each.
 use Prim.Native.Nat.{ℕ}
 use mathlib.Core.Path.{◌≡◌, refl, sym, ◌∙◌, ap}
-use mathlib.Core.Bool.{Bool, true, false, cond, ◌&&◌}
+use mathlib.Core.Bool.{Bool, true, false, cond}
 use mathlib.Core.List.{List, [], ◌∷◌}
 use native.Mathlib.Omega.{arith}
 use borrow.Author.Tests.{eq-eqb, ne_eqb}
-use lib.Dec.{eqb}
 use denote.Enum.Declared as Declared
 use types.Run.{OneOf, miss}
 use Rattle.records.specs.declared.events.Event.{Event}
 use Rattle.records.specs.declared.events.EventRead.{EventRead}
-use Rattle.records.specs.Tables.{Read, taken, refused, read}
+use Rattle.records.specs.Tables.{taken, read}
 use Rattle.records.specs.Events.{events, as_event_read}
 use Rattle.records.specs.contracts.events.EventRead as event-read
 use Rattle.timers.specs.declared.bank.Bank.{Bank}
@@ -20,7 +19,6 @@ use Rattle.callcontrol.specs.Call.{sound}
 use Rattle.callcontrol.specs.Step.{answer_number, unread_as, place_in, step_of as call_step_of}
 use Rattle.demands.specs.Runs.{outcome}
 use Rattle.demands.proofs.Facts.{left}
-use Rattle.timers.proofs.Tests.{decide}
 use Rattle.timed.specs.declared.set.Timed.{Timed}
 use Rattle.timed.specs.declared.set.Ready.{Ready}
 use Rattle.timed.specs.Set.{is_set, table_right, due_at, first_due, held_at, with_flags}

@@ -1,16 +1,14 @@
 -- In the network's silence, row by row: a timer that ends the call runs on untouched, or the call is being ended, or it is over.
-use Prim.Native.Nat.{ℕ, zero, suc, ◌+◌, ◌<◌, ◌≤◌}
-use mathlib.Core.Path.{◌≡◌, refl, sym, ◌∙◌, ap}
-use mathlib.Core.Bool.{Bool, true, false, cond, not, ◌&&◌, ◌||◌}
-use mathlib.Core.List.{List, [], ◌∷◌, ◌++◌}
-use mathlib.Core.Option.{Option, none, some}
+use Prim.Native.Nat.{ℕ, zero, suc, ◌<◌}
+use mathlib.Core.Path.{◌≡◌, refl}
+use mathlib.Core.Bool.{true, false, cond}
+use mathlib.Core.List.{List}
 use native.Mathlib.Omega.{arith}
-use borrow.Author.Tests.{eqb-true, eqb-false}
-use lib.Dec.{eqb, leb, lit<}
-use lib.ListN.{length, get_or}
+use borrow.Author.Tests.{eqb-true}
+use lib.Dec.{eqb, lit<}
+use lib.ListN.{get_or}
 use Rattle.records.specs.declared.events.Event.{Event}
 use Rattle.records.specs.declared.events.Event.TheVariants.{SetupRequest, DConnect, DInfo, Expiry}
-use Rattle.records.specs.declared.messages.Message.{Message}
 use Rattle.records.specs.declared.messages.Message.TheVariants.{UTxCeased, UCallRestore}
 use Rattle.records.specs.Tables.{flat}
 use Rattle.records.specs.Events.{events}
@@ -19,16 +17,16 @@ use Rattle.timers.proofs.Indices.{by_index}
 use Rattle.callcontrol.specs.declared.call.State.{State}
 use Rattle.callcontrol.specs.declared.call.Path.{Path}
 use Rattle.callcontrol.specs.declared.call.Call.{Call}
-use Rattle.callcontrol.specs.Call.{fresh_call, runs, is_idle, state_number, transmits, T301, T302, T303, T306, T308, T310, T311}
+use Rattle.callcontrol.specs.Call.{runs, is_idle, state_number, transmits, T301, T306, T308, T311}
 use Rattle.callcontrol.specs.Draft.{Draft, ◌▷◌, draft, store_asked, on_path, start, stop, off, say}
 use Rattle.callcontrol.specs.Rows
 use Rattle.callcontrol.specs.Rows.{row_for}
-use Rattle.callcontrol.specs.Writing.{when, by_number, starting, messages_in}
+use Rattle.callcontrol.specs.Writing.{by_number, starting, messages_in}
 use Rattle.callcontrol.proofs.Verbs.{verbs}
-use Rattle.demands.proofs.Facts.{apart, left, right}
+use Rattle.demands.proofs.Facts.{apart, left}
 use Rattle.demands.proofs.ByRow.{Live, Ender, t301, t302, t303, t306, t310, Row}
 use Rattle.demands.proofs.Timers.{Timed, idle, mo, mt, up, broken, restoring, wait, disconnect, row_clocked}
-use Rattle.timed.specs.Times.{Begun, Clocks, noted, noted_all}
+use Rattle.timed.specs.Times.{Clocks, noted, noted_all}
 use Rattle.timed.specs.Runs.{is_word}
 
 word_connect : (i g d o s : ℕ) → is_word (DConnect i g d o s) ≡ true

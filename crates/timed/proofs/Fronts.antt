@@ -1,7 +1,7 @@
 -- What the bytes of a message say at their front: its length, its kind, and a START's timer and code.
 use Prim.Native.Nat.{ℕ, zero, suc, ◌+◌, ◌-◌, ◌≤◌, ◌<◌}
 use mathlib.Core.Path.{◌≡◌, refl, sym, ◌∙◌, ap, subst}
-use mathlib.Core.Bool.{Bool, true, ◌&&◌}
+use mathlib.Core.Bool.{true, ◌&&◌}
 use mathlib.Core.List.{List, [], ◌∷◌, ◌++◌}
 use native.Mathlib.Omega.{arith}
 use lib.Dec.{lit≤}
@@ -16,7 +16,6 @@ use Rattle.records.specs.Tables.{fine}
 use Rattle.records.specs.Messages.{messages, message_bytes}
 use Rattle.records.proofs.RoundTrip.{below}
 use Rattle.callcontrol.specs.Writing.{bytes_of}
-use Rattle.demands.specs.Runs.{every?}
 use Rattle.demands.proofs.Facts.{left, right}
 use Rattle.timers.specs.declared.bank.Bank.{Bank}
 use Rattle.timers.specs.declared.bank.Ordered.{Ordered}

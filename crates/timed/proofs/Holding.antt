@@ -1,13 +1,13 @@
 -- The bank of a set holds what the counter shows of the timers in true time, over every run in reach: kept by every turn.
-use Prim.Native.Nat.{ℕ, ◌+◌, ◌<◌, ◌≤◌}
-use mathlib.Core.Path.{◌≡◌, refl, sym, ◌∙◌, ap}
-use mathlib.Core.Bool.{Bool, true, false, cond, not, ◌&&◌, ◌||◌}
-use mathlib.Core.List.{List, [], ◌∷◌, ◌++◌, append-nil}
-use mathlib.Core.Option.{Option, none, some}
+use Prim.Native.Nat.{ℕ, ◌<◌, ◌≤◌}
+use mathlib.Core.Path.{◌≡◌, refl, sym, ◌∙◌}
+use mathlib.Core.Bool.{Bool, true, false, cond}
+use mathlib.Core.List.{List, [], ◌∷◌, append-nil}
+use mathlib.Core.Option.{some}
 use native.Mathlib.Omega.{arith}
 use borrow.Author.Tests.{eqb-true, eqb-false, ne_eqb, lt-ltb}
-use lib.Dec.{eqb, ltb, lit<}
-use lib.ListN.{length, get_or, set}
+use lib.Dec.{eqb, lit<}
+use lib.ListN.{get_or}
 use Rattle.records.specs.declared.events.Event.{Event}
 use Rattle.records.specs.declared.events.Event.TheVariants.{SetupRequest, SetupResponse, ReleaseRequest, TxRequest, DCallProceeding, DAlert, DConnect, DConnectAcknowledge, DSetup, DInfo, DTxGranted, DTxCeased, DTxInterrupt, DTxWait, DTxContinue, DCallRestore, DDisconnect, DRelease, ReportSent, ReportFailed, Break, Resume, Expiry}
 use Rattle.records.specs.declared.messages.Message.{Message}
@@ -19,10 +19,8 @@ use Rattle.timers.specs.declared.bank.Bank.{Bank}
 use Rattle.timers.specs.Wrap.{shown}
 use Rattle.timers.specs.Due.{numbers}
 use Rattle.timers.specs.Bank.{new_bank, index_of, length_in, with, started, advanced_to, keys_at, handed_at}
-use Rattle.timers.proofs.Tests.{decide}
 use Rattle.timers.proofs.Indices.{by_index}
 use Rattle.callcontrol.specs.declared.call.Call.{Call}
-use Rattle.callcontrol.specs.Call.{fresh_call}
 use Rattle.demands.specs.Runs as Steps
 use Rattle.demands.specs.Runs.{every?}
 use Rattle.demands.specs.Clocks as Clocks
@@ -31,10 +29,10 @@ use Rattle.demands.specs.Demands.{limits}
 use Rattle.demands.proofs.Facts.{apart, left, right}
 use Rattle.demands.proofs.Demands.{zero_is_taken, taken_gives, step_in_range, starts_with_limit}
 use Rattle.timed.specs.declared.set.Timed.{Timed}
-use Rattle.timed.specs.Set.{new_of, table_right, due_at, first_due, started_by, started_all, with_flags, held_at, turned}
-use Rattle.timed.specs.Entries.{Outcome, turn_of, expiry_of, is_expiry}
-use Rattle.timed.specs.Times.{Begun, end, Clocks, no_clock, is_due, dropped, begun, noted, noted_all, First}
-use Rattle.timed.specs.Runs.{Turn, step, due, time_of, table_of, outcome, is_taken, next, run, steps_by, taken_by, written_by, lapse, lapses, has_word, Kept, made, then, after, Near, InReach, AllInReach}
+use Rattle.timed.specs.Set.{table_right, due_at, first_due, started_by, started_all, with_flags, held_at, turned}
+use Rattle.timed.specs.Entries.{turn_of, expiry_of}
+use Rattle.timed.specs.Times.{Clocks, is_due, dropped, noted, noted_all, First}
+use Rattle.timed.specs.Runs.{Turn, step, due, time_of, table_of, is_taken, next, run, steps_by, taken_by, written_by, lapse, lapses, Kept, made, then, after, Near, InReach, AllInReach}
 use Rattle.timed.proofs.Ranges.{timer_index, stop_timer, start_timer, start_long}
 use Rattle.timed.proofs.Ledger.{Shows, shows_stop, shows_start, shows_at, first_is, none_due_is}
 use Rattle.timed.proofs.Turns.{Did, Refused, Waited, Stepped, Lapsed, refused, waited, stepped, lapsed, did, next_is, lapse_turn}

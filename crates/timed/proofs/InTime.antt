@@ -1,33 +1,27 @@
 -- A timer that is neither stopped nor started anew expires at the first due at or after its deadline at which no other expires.
-use Prim.Native.Nat.{ℕ, ◌+◌, ◌<◌, ◌≤◌}
+use Prim.Native.Nat.{ℕ, ◌≤◌}
 use mathlib.Core.Path.{◌≡◌, refl, sym, ◌∙◌, ap}
 use mathlib.Core.Bool.{Bool, true, false, cond, not, ◌&&◌, ◌||◌}
 use mathlib.Core.List.{List, [], ◌∷◌, ◌++◌}
 use mathlib.Core.Option.{Option, none, some}
-use native.Mathlib.Omega.{arith}
-use borrow.Author.Tests.{eqb-true, eqb-false, eq-eqb, ne_eqb, leb-true, leb-false, le-leb, lt-leb}
-use lib.Dec.{eqb, leb}
-use Rattle.records.specs.declared.events.Event.{Event}
-use Rattle.records.specs.declared.events.Event.TheVariants.{Expiry}
+use borrow.Author.Tests.{eqb-true, eqb-false, eq-eqb, ne_eqb, le-leb, lt-leb}
+use lib.Dec.{eqb}
 use Rattle.records.specs.declared.messages.Message.{Message}
 use Rattle.records.specs.declared.messages.Message.TheVariants.{USetup, UConnect, UDisconnect, URelease, UInfo, UTxDemand, UTxCeased, UCallRestore, Stop, Start, Configure, Cancel, Place, ChannelAnswer, SetupIndication, SetupConfirm, Proceed, Alert, Complete, ReleaseIndication, ReleaseConfirm, TxIndication, ModifyIndication}
 use Rattle.timers.specs.Wrap.{shown}
-use Rattle.timers.specs.Bank.{length_in}
 use Rattle.timers.proofs.Tests.{decide, by_test}
-use Rattle.callcontrol.specs.declared.call.Call.{Call}
 use Rattle.demands.specs.Runs as Steps
 use Rattle.demands.proofs.Facts.{apart}
-use Rattle.timed.specs.declared.set.Timed as Set
 use Rattle.timed.specs.Set.{first_due}
 use Rattle.timed.specs.Entries.{turn_of}
-use Rattle.timed.specs.Times.{Begun, end, Clocks, is_due, dropped, noted, noted_all, orders_to, ordered, first_from}
-use Rattle.timed.specs.Runs.{Turn, step, due, time_of, table_of, outcome, is_taken, steps_by, written_by, lapse, Kept, made, then, after, InReach, AllInReach}
+use Rattle.timed.specs.Times.{Begun, end, Clocks, dropped, noted, noted_all, orders_to, ordered, first_from}
+use Rattle.timed.specs.Runs.{Turn, step, due, outcome, is_taken, written_by, lapse, Kept, made, then, after, InReach, AllInReach}
 use Rattle.timed.specs.Demands.{expiries, dues, NotOrdered, OnTime}
 use Rattle.timed.proofs.Ledger.{none≢some}
 use Rattle.timed.proofs.Turns.{Did, Refused, Waited, Stepped, Lapsed, refused, waited, stepped, lapsed, did, lapse_turn}
 use Rattle.timed.proofs.Holding.{Holds, every_run, holds_then, none_due, step_takes, no_lapse, writes_one}
 use Rattle.timed.proofs.OnTime.{clocks_refused, clocks_waited, clocks_made, clocks_then, n₀, is_first, first_number}
-use Rattle.timed.proofs.Silence.{answered, is_taken_lem, not_late}
+use Rattle.timed.proofs.Silence.{not_late}
 
 -- ---- messages that give no order to a timer
 

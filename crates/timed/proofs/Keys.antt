@@ -1,16 +1,16 @@
 -- The timer that due finds first runs in the record, by the bank's own keys: whatever the readings were.
-use Prim.Native.Nat.{ℕ, zero, suc, ◌+◌, ◌*◌, ◌-◌, ◌%◌, ◌<◌, ◌≤◌}
-use mathlib.Core.Path.{◌≡◌, refl, sym, ◌∙◌, ap}
-use mathlib.Core.Bool.{Bool, true, false, cond}
-use mathlib.Core.List.{List, [], ◌∷◌}
+use Prim.Native.Nat.{ℕ, zero, suc, ◌+◌, ◌*◌, ◌-◌, ◌%◌, ◌<◌}
+use mathlib.Core.Path.{◌≡◌, refl, ◌∙◌}
+use mathlib.Core.Bool.{Bool, true, false}
+use mathlib.Core.List.{List}
 use native.Mathlib.Omega.{arith}
-use lib.Dec.{eqb, lit<}
+use lib.Dec.{lit<}
 use lib.ListN.{get_or}
 use Rattle.timers.specs.declared.bank.Bank.{Bank}
 use Rattle.timers.specs.Wrap.{forward, is_back}
 use Rattle.timers.specs.Due.{numbers, key_of, keys_of, count_of, below, number_of, handed}
 use Rattle.timers.specs.Bank.{keys_at, handed_at}
-use Rattle.timers.proofs.Tests.{decide, by_test, All}
+use Rattle.timers.proofs.Tests.{by_test}
 use Rattle.timed.proofs.Ledger.{Greatest, greatest}
 
 record Running (b : Bank) (reading y : ℕ) : Type 0 where

@@ -1,25 +1,25 @@
 -- A bank holds what the counter shows of the timers in true time: kept by every STOP and START, and the first that is due by the bank is the
 -- first in true time.
-use Prim.Native.Nat.{ℕ, zero, suc, ◌+◌, ◌*◌, ◌-◌, ◌%◌, ◌<◌, ◌≤◌, max, zero-le}
-use mathlib.Core.Path.{◌≡◌, refl, sym, ◌∙◌, ap, subst}
+use Prim.Native.Nat.{ℕ, ◌+◌, ◌*◌, ◌-◌, ◌%◌, ◌<◌, ◌≤◌, max}
+use mathlib.Core.Path.{◌≡◌, refl, sym, ◌∙◌, ap}
 use mathlib.Core.Bool.{Bool, true, false, cond}
 use mathlib.Core.List.{List, [], ◌∷◌}
 use mathlib.Core.Option.{Option, none, some}
 use native.Mathlib.Omega.{arith}
 use lib.Dec.{eqb, leb, ltb, lit<}
-use lib.ListN.{length, get_or, set, length-set}
+use lib.ListN.{length, get_or, length-set}
 use lib.Seq.{get_or-set_same, get_or-set_other}
-use borrow.Author.Tests.{eqb-true, eqb-false, leb-true, leb-false, ltb-true, ltb-false, lt-ltb, le-ltb, le-leb, ne_eqb, eq-eqb}
+use borrow.Author.Tests.{eqb-true, eqb-false, leb-true, leb-false, lt-ltb, le-leb, ne_eqb}
 use Rattle.timers.specs.declared.bank.Bank.{Bank}
 use Rattle.timers.specs.Wrap.{shown, forward}
 use Rattle.timers.specs.Due.{numbers, key_of, keys_of, one_if, count_of, under, greater, below, number_of}
 use Rattle.timers.specs.Bank.{without, with, index_of, length_in, keys_at, advanced_to}
 use Rattle.timers.proofs.Tests.{decide, by_test, cond_same, All, weaken}
-use Rattle.timers.proofs.Indices.{by_index, by_number_lem, same_timer, other_timer, rising}
+use Rattle.timers.proofs.Indices.{by_number_lem, same_timer, rising}
 use Rattle.timers.proofs.Wrapping.{not_back, back, ahead, behind}
 use Rattle.timers.proofs.Keys.{most, below_is, greater_is}
 use Rattle.timers.proofs.Calls.{length_most}
-use Rattle.timed.specs.Times.{Begun, end, Clocks, no_clock, is_due, dropped, begun, Before, First}
+use Rattle.timed.specs.Times.{Begun, end, Clocks, is_due, dropped, begun, Before, First}
 use Rattle.timed.specs.Set.{with_flags}
 use Rattle.timed.specs.Runs.{Near}
 

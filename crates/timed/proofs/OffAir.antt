@@ -1,16 +1,12 @@
 -- A simplex set is off the air soon after the network's last word: in its silence T311 is not started, and plane 1 is told only while it runs.
-use Prim.Native.Nat.{ℕ, ◌+◌, ◌-◌, ◌<◌, ◌≤◌}
+use Prim.Native.Nat.{ℕ, ◌+◌, ◌<◌, ◌≤◌}
 use mathlib.Core.Path.{◌≡◌, refl, sym, ◌∙◌, ap}
-use mathlib.Core.Bool.{Bool, true, false, cond}
+use mathlib.Core.Bool.{false}
 use mathlib.Core.List.{List, [], ◌∷◌}
 use mathlib.Core.Option.{Option, none, some}
 use native.Mathlib.Omega.{arith}
 use lib.Dec.{eqb, lit<}
-use lib.ListN.{get_or}
 use Rattle.records.specs.declared.events.Event.{Event}
-use Rattle.records.specs.declared.events.Event.TheVariants.{Expiry}
-use Rattle.timers.specs.Due.{numbers}
-use Rattle.timers.specs.Bank.{length_in}
 use Rattle.timers.proofs.Tests.{by_test}
 use Rattle.callcontrol.specs.declared.call.Call.{Call}
 use Rattle.callcontrol.specs.Call.{runs, T311}
@@ -18,14 +14,14 @@ use Rattle.callcontrol.specs.Rows.{row_for}
 use Rattle.demands.specs.Runs as Steps
 use Rattle.demands.proofs.Demands.{step_in_range}
 use Rattle.timed.specs.Entries.{turn_of}
-use Rattle.timed.specs.Times.{Begun, end, Clocks, dropped, noted_all}
-use Rattle.timed.specs.Runs.{Turn, step, due, time_of, table_of, outcome, taken_by, lapse, has_word, Kept, made, then, after, InReach, AllInReach}
+use Rattle.timed.specs.Times.{Begun, Clocks, dropped}
+use Rattle.timed.specs.Runs.{Turn, step, due, taken_by, has_word, Kept, made, then, after, InReach, AllInReach}
 use Rattle.timed.specs.Demands.{Silent, OffAir, Started, OutlivesNetwork}
 use Rattle.timed.proofs.Ledger.{none≢some}
-use Rattle.timed.proofs.Turns.{Did, Stepped, Lapsed, refused, waited, stepped, lapsed, did, lapse_turn}
+use Rattle.timed.proofs.Turns.{Did, Stepped, refused, waited, stepped, lapsed, did, lapse_turn}
 use Rattle.timed.proofs.Reach.{kept, clocked}
 use Rattle.timed.proofs.Holding.{Holds, holds_made, every_run, holds_after, holds_then, step_takes, limits_at, no_lapse}
-use Rattle.timed.proofs.OnTime.{noted_all_at, clocks_refused, clocks_waited, clocks_made, clocks_then, none_runs_lem, n₀, none_311, last_refused, last_taken, Quiet311, quiet_after, quiet_made, on_air_at}
+use Rattle.timed.proofs.OnTime.{noted_all_at, clocks_refused, clocks_waited, clocks_made, clocks_then, none_runs_lem, n₀, none_311, last_refused, last_taken, quiet_after, quiet_made, on_air_at}
 use Rattle.timed.proofs.Fates.{Off, silenced, untouched, fate_311}
 use Rattle.timed.proofs.Silence.{answered, Plain, plain, outlives}
 

@@ -2,29 +2,28 @@
 -- then stops, but for T310 behind T311.
 use Prim.Native.Nat.{ℕ, ◌+◌, ◌<◌, ◌≤◌}
 use mathlib.Core.Path.{◌≡◌, refl, sym, ◌∙◌, ap}
-use mathlib.Core.Bool.{Bool, true, false, cond, not, ◌&&◌, ◌||◌}
+use mathlib.Core.Bool.{Bool, true, false}
 use mathlib.Core.List.{List, [], ◌∷◌}
 use mathlib.Core.Option.{Option, none, some}
 use native.Mathlib.Omega.{arith}
-use borrow.Author.Tests.{eqb-true, eqb-false, eq-eqb, ne_eqb, leb-true, leb-false, le-leb, lt-leb}
-use lib.Dec.{eqb, leb, lit<}
-use lib.ListN.{length, get_or}
+use borrow.Author.Tests.{eqb-true, eqb-false, eq-eqb, ne_eqb, leb-false, le-leb, lt-leb}
+use lib.Dec.{eqb, lit<}
+use lib.ListN.{get_or}
 use Rattle.records.specs.declared.events.Event.{Event}
 use Rattle.records.specs.declared.events.Event.TheVariants.{Expiry}
 use Rattle.records.specs.declared.messages.Message.{Message}
 use Rattle.records.specs.declared.messages.Message.TheVariants.{USetup, UConnect, UDisconnect, URelease, UInfo, UTxDemand, UTxCeased, UCallRestore, Stop, Start, Configure, Cancel, Place, ChannelAnswer, SetupIndication, SetupConfirm, Proceed, Alert, Complete, ReleaseIndication, ReleaseConfirm, TxIndication, ModifyIndication}
-use Rattle.records.specs.Tables.{flat, fine}
-use Rattle.records.specs.Events.{events}
+use Rattle.records.specs.Tables.{fine}
 use Rattle.records.specs.Messages.{messages}
 use Rattle.timers.specs.Wrap.{shown}
 use Rattle.timers.specs.Due.{numbers}
-use Rattle.timers.specs.Bank.{index_of, length_in}
+use Rattle.timers.specs.Bank.{length_in}
 use Rattle.timers.proofs.Tests.{decide, by_test}
 use Rattle.timers.proofs.Indices.{by_index, by_number_lem}
 use Rattle.callcontrol.specs.declared.call.State.{State}
 use Rattle.callcontrol.specs.declared.call.Path.{Path}
 use Rattle.callcontrol.specs.declared.call.Call.{Call}
-use Rattle.callcontrol.specs.Call.{fresh_call, runs, T301, T302, T303, T306, T308, T310, T311}
+use Rattle.callcontrol.specs.Call.{runs, T311}
 use Rattle.callcontrol.specs.Draft.{Draft}
 use Rattle.callcontrol.specs.Rows
 use Rattle.callcontrol.specs.Rows.{row_for}
@@ -37,19 +36,18 @@ use Rattle.demands.proofs.Facts.{apart, left, right}
 use Rattle.demands.proofs.ByRow.{Ender, t301, t302, t303, t306, t310, Row, is_row}
 use Rattle.demands.proofs.Demands.{step_in_range}
 use Rattle.demands.proofs.Situations.{clauses}
-use Rattle.demands.proofs.Timers.{Timed, idle, mo, mt, up, broken, restoring, wait, disconnect, Few, row_clocked, few}
-use Rattle.demands.proofs.Timers as Timers
+use Rattle.demands.proofs.Timers.{Timed, up, disconnect, Few, row_clocked, few}
 use Rattle.demands.proofs.Turns.{accepts}
 use Rattle.timed.specs.declared.set.Timed as Set
 use Rattle.timed.specs.Set.{table_right, first_due, turned}
 use Rattle.timed.specs.Entries.{Outcome, turn_of}
 use Rattle.timed.specs.Times.{Begun, end, Clocks, is_due, dropped, noted, noted_all, First}
-use Rattle.timed.specs.Runs.{Turn, step, due, time_of, table_of, outcome, is_taken, next, steps_by, taken_by, written_by, lapse, lapses, Kept, made, then, after, Near, InReach, AllInReach}
+use Rattle.timed.specs.Runs.{Turn, step, due, time_of, table_of, outcome, is_taken, steps_by, taken_by, lapse, Kept, made, then, after, InReach, AllInReach}
 use Rattle.timed.specs.Demands.{StepSettled, DueSettled, DueFirst, NotPassedOver, OthersStop, AtMostTwo, OnAir}
 use Rattle.timed.proofs.Ranges.{start_long}
-use Rattle.timed.proofs.Ledger.{Runs, Shows, none≢some}
+use Rattle.timed.proofs.Ledger.{Runs, none≢some}
 use Rattle.timed.proofs.Turns.{Did, Refused, Waited, Stepped, Lapsed, refused, waited, stepped, lapsed, did, next_is, lapse_turn, due_waited, due_lapsed, step_stepped}
-use Rattle.timed.proofs.Reach.{Reach, kept, clocked}
+use Rattle.timed.proofs.Reach.{kept, clocked}
 use Rattle.timed.proofs.Holding.{Holds, holds_made, every_run, holds_then, lapse_first, none_due, step_takes, lapse_takes, limits_at, no_lapse, takes_one, writes_one}
 
 -- ---- one timer over the messages of a step

@@ -1,11 +1,11 @@
 -- What a START counts with: a table that is right has a length of 1 to 2^30 for each timer that a step starts.
 use Prim.Native.Nat.{ℕ, zero, suc, ◌+◌, ◌-◌, ◌<◌, ◌≤◌}
 use mathlib.Core.Path.{◌≡◌, refl, sym, ◌∙◌}
-use mathlib.Core.Bool.{Bool, true, false, cond, not, ◌&&◌, ◌||◌}
-use mathlib.Core.List.{List, [], ◌∷◌}
+use mathlib.Core.Bool.{Bool, true, false, not, ◌&&◌, ◌||◌}
+use mathlib.Core.List.{List}
 use native.Mathlib.Omega.{arith}
-use borrow.Author.Tests.{eqb-true, eqb-false, leb-true, lt-ltb, ne_eqb}
-use lib.Dec.{eqb, leb, ltb, lit<, lit≤}
+use borrow.Author.Tests.{eqb-true, eqb-false, leb-true, lt-ltb}
+use lib.Dec.{eqb, leb, lit<, lit≤}
 use lib.ListN.{length, get_or}
 use Rattle.records.specs.declared.messages.Message.TheVariants.{Stop, Start}
 use Rattle.records.specs.Letters.{is_timer, within}

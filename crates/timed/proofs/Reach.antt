@@ -4,14 +4,12 @@ use Prim.Native.Nat.{ℕ, ◌+◌, ◌*◌, ◌<◌, ◌≤◌}
 use mathlib.Core.Path.{◌≡◌, refl, sym, ◌∙◌, ap}
 use mathlib.Core.Bool.{Bool, true, false, cond, not, ◌&&◌, ◌||◌}
 use mathlib.Core.List.{List, [], ◌∷◌, ◌++◌}
-use mathlib.Core.Option.{Option, some}
 use native.Mathlib.Omega.{arith}
 use borrow.Author.Tests.{leb-true, le-leb}
 use lib.Dec.{leb, eqb, lit<, lit≤}
 use lib.ListN.{length, get_or, replicate}
-use Rattle.records.specs.declared.events.Event.{Event}
 use Rattle.records.specs.declared.events.Event.TheVariants.{Expiry}
-use Rattle.records.specs.declared.messages.Message.TheVariants.{ReleaseIndication, UTxCeased}
+use Rattle.records.specs.declared.messages.Message.TheVariants.{ReleaseIndication}
 use Rattle.records.specs.Bodies.{flat_size}
 use Rattle.records.specs.Tables.{read, taken}
 use Rattle.records.specs.Events.{events}
@@ -22,8 +20,8 @@ use Rattle.timers.proofs.Indices.{by_index}
 use Rattle.callcontrol.specs.declared.call.State.{State}
 use Rattle.callcontrol.specs.declared.call.Path.{Path}
 use Rattle.callcontrol.specs.declared.call.Call.{Call}
-use Rattle.callcontrol.specs.Call.{fresh_call, runs, sound, T301, T302, T303, T306, T308, T310, T311}
-use Rattle.callcontrol.specs.Draft.{Draft, ◌▷◌, draft, expired, off, say, tell, release}
+use Rattle.callcontrol.specs.Call.{fresh_call, runs, T301, T302, T303, T306, T310}
+use Rattle.callcontrol.specs.Draft.{Draft, ◌▷◌, draft, expired, tell, release}
 use Rattle.callcontrol.specs.Rows
 use Rattle.callcontrol.specs.Rows.{row_for}
 use Rattle.callcontrol.specs.Writing.{messages_in, bytes_of, count_of}
@@ -31,17 +29,17 @@ use Rattle.callcontrol.specs.Step.{other_call, carried, decided, step_of}
 use Rattle.callcontrol.proofs.Laying.{size_messages}
 use Rattle.callcontrol.proofs.Verbs.{verbs}
 use Rattle.demands.specs.Runs as Steps
-use Rattle.demands.specs.Clocks.{log_in, index_of, note_messages, note_taken, note_log, running_by, runs_by}
+use Rattle.demands.specs.Clocks.{log_in, index_of, note_messages, note_taken, note_log, running_by}
 use Rattle.demands.specs.Demands.{AtRest}
 use Rattle.demands.specs.Demands as demands
-use Rattle.demands.proofs.Facts.{apart, left, right}
+use Rattle.demands.proofs.Facts.{left, right}
 use Rattle.demands.proofs.ByRow.{Ender, t301, t302, t303, t306, t310, Row, is_row}
 use Rattle.demands.proofs.Bound.{slot, slot_size}
 use Rattle.demands.proofs.Turns.{run-append, run_last, accepts}
 use Rattle.demands.proofs.Sound.{always}
 use Rattle.demands.proofs.Tracked.{timers_by_messages}
 use Rattle.demands.proofs.Expiries.{by_messages, due_expiry}
-use Rattle.demands.proofs.Timers.{Timed, idle, mo, mt, up, broken, restoring, wait, disconnect, Clocked, reached, Few, none, one, two, three, eight, ten, ten_eleven, eleven_only, six_only, six_ten, few}
+use Rattle.demands.proofs.Timers.{Timed, up, disconnect, Clocked, reached, Few, none, one, two, three, eight, ten, ten_eleven, eleven_only, six_only, six_ten, few}
 use Rattle.timed.specs.Entries.{turn_of, expiry_of}
 use Rattle.timed.proofs.Expiries.{expiry_reads}
 

@@ -1,7 +1,7 @@
 -- What is left at rest: the records of a run in which no timer runs.
 use Prim.Native.Nat.{ℕ, ◌+◌, ◌-◌, ◌<◌, ◌≤◌}
 use mathlib.Core.Path.{◌≡◌, refl, sym, ◌∙◌, ap}
-use mathlib.Core.Bool.{Bool, true, false, not}
+use mathlib.Core.Bool.{Bool, true, false}
 use mathlib.Core.List.{List, [], ◌∷◌}
 use mathlib.Core.Option.{Option, none, some}
 use native.Mathlib.Omega.{arith}
@@ -10,10 +10,9 @@ use lib.Dec.{eqb, lit<}
 use lib.ListN.{get_or}
 use Rattle.timers.specs.Due.{numbers}
 use Rattle.timers.proofs.Tests.{decide}
-use Rattle.callcontrol.specs.declared.call.State.{State}
 use Rattle.callcontrol.specs.declared.call.Path.{Path}
 use Rattle.callcontrol.specs.declared.call.Call.{Call}
-use Rattle.callcontrol.specs.Call.{fresh_call, runs, sound, path_number, T301, T306, T311}
+use Rattle.callcontrol.specs.Call.{fresh_call, runs, sound, path_number, T306, T311}
 use Rattle.demands.specs.Runs as Steps
 use Rattle.demands.specs.Clocks.{note_log, running_by}
 use Rattle.demands.specs.Demands as demands
@@ -25,7 +24,7 @@ use Rattle.demands.proofs.Timers.{Few, few}
 use Rattle.demands.proofs.Demands.{none_runs_lem, timers_by_messages, timers}
 use Rattle.timed.specs.Set.{new_of}
 use Rattle.timed.specs.Times.{Begun, end, Clocks, is_due}
-use Rattle.timed.specs.Runs.{Turn, step, due, time_of, run, steps_in, Kept, made, then, after, Near, InReach, AllInReach}
+use Rattle.timed.specs.Runs.{Turn, step, due, time_of, steps_in, Kept, made, then, after, Near, InReach, AllInReach}
 use Rattle.timed.specs.Demands.{Rests, over, rings, talks, pauses, none_runs, AtRest, RestsExactly, only_due, Settled, LoneRests, RestsForEver, NearForNothing}
 use Rattle.timed.proofs.Ledger.{none≢some}
 use Rattle.timed.proofs.Turns.{Did, refused, waited, lapsed, did}

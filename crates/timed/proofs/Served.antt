@@ -1,12 +1,12 @@
 -- What the entries answer in a run: due takes every expiry, a step after it is the step's own, and how many bytes are written.
-use Prim.Native.Nat.{ℕ, ◌+◌, ◌-◌, ◌<◌, ◌≤◌}
+use Prim.Native.Nat.{ℕ, ◌-◌, ◌≤◌}
 use mathlib.Core.Path.{◌≡◌, refl, sym, ◌∙◌, ap}
 use mathlib.Core.Bool.{Bool, true, false, cond}
-use mathlib.Core.List.{List, [], ◌∷◌}
+use mathlib.Core.List.{List}
 use mathlib.Core.Option.{some}
 use native.Mathlib.Omega.{arith}
 use borrow.Author.Tests.{eqb-true, eqb-false}
-use lib.Dec.{eqb, leb, lit≤}
+use lib.Dec.{eqb, lit≤}
 use lib.ListN.{length, get_or}
 use Rattle.records.specs.declared.events.Event.{Event}
 use Rattle.records.specs.declared.events.Event.TheVariants.{Expiry}
@@ -14,25 +14,24 @@ use Rattle.records.specs.Tables.{read, taken}
 use Rattle.records.specs.Events.{events}
 use Rattle.timers.specs.Wrap.{shown, forward, is_back}
 use Rattle.timers.specs.Due.{numbers}
-use Rattle.timers.specs.Bank.{keys_at, handed_at, advanced_to}
+use Rattle.timers.specs.Bank.{keys_at, advanced_to}
 use Rattle.timers.proofs.Tests.{decide}
 use Rattle.timers.proofs.Wrapping.{not_back, ahead}
 use Rattle.callcontrol.specs.declared.call.Call.{Call}
-use Rattle.callcontrol.specs.Call.{fresh_call, runs, sound}
+use Rattle.callcontrol.specs.Call.{runs, sound}
 use Rattle.callcontrol.specs.Step as Step
-use Rattle.callcontrol.specs.Writing.{messages_in, bytes_of}
 use Rattle.demands.specs.Runs as Steps
 use Rattle.demands.proofs.Facts.{left}
 use Rattle.demands.proofs.Turns.{Accepted, accepts}
-use Rattle.demands.proofs.Demands.{at_most_32, zero_is_taken, place_only_with_four, refuses}
+use Rattle.demands.proofs.Demands.{at_most_32, zero_is_taken, refuses}
 use Rattle.timed.specs.declared.set.Timed.{Timed}
 use Rattle.timed.specs.Set.{new_of, same_flags, is_set, table_right, due_at, first_due, held_at, turned}
 use Rattle.timed.specs.Entries as Entries
 use Rattle.timed.specs.Entries.{Outcome, of_turn, turn_of, expiry_of, is_expiry, when_ready, step_of, due_of}
-use Rattle.timed.specs.Runs.{Turn, step, due, outcome, next, run, steps_in, Kept, made, after, InReach, AllInReach}
+use Rattle.timed.specs.Runs.{Turn, step, due, outcome, run, steps_in, Kept, made, after, InReach}
 use Rattle.timed.specs.Demands.{as_step, AsTheStep, DueAnswersZero, DueInReach, AtMost32, DueAtMost30}
 use Rattle.timed.proofs.Turns.{Did, Waited, refused, waited, stepped, lapsed, did, next_is, lapse_turn, due_waited}
-use Rattle.timed.proofs.Together.{Joined, bank_is_record, follows_step, stays_set, is_set_lem, sound_run}
+use Rattle.timed.proofs.Together.{Joined, bank_is_record, follows_step, stays_set, is_set_lem}
 use Rattle.timed.proofs.Reach.{Reach, kept, expiry_short, expiry_taken, reads_expiry}
 use Rattle.timed.proofs.Keys.{first_runs}
 use Rattle.timed.proofs.Holding.{Holds, every_run}

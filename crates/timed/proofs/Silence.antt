@@ -1,49 +1,45 @@
 -- In the network's silence a call that a timer ends is over within its deadline, T308's length and two gaps; and a simplex set is off the air.
 use Prim.Native.Nat.{ℕ, ◌+◌, ◌-◌, ◌<◌, ◌≤◌}
 use mathlib.Core.Path.{◌≡◌, refl, sym, ◌∙◌, ap, subst}
-use mathlib.Core.Bool.{Bool, true, false, cond, not, ◌&&◌, ◌||◌}
+use mathlib.Core.Bool.{Bool, true, false, ◌||◌}
 use mathlib.Core.List.{List, [], ◌∷◌}
 use mathlib.Core.Option.{Option, none, some}
 use native.Mathlib.Omega.{arith}
-use borrow.Author.Tests.{eqb-true, eqb-false, eq-eqb, ne_eqb, leb-true, leb-false, le-leb, lt-leb}
+use borrow.Author.Tests.{eqb-true, eqb-false, leb-true, leb-false}
 use lib.Dec.{eqb, leb, lit<}
-use lib.ListN.{length, get_or}
+use lib.ListN.{get_or}
 use Rattle.records.specs.declared.events.Event.{Event}
-use Rattle.records.specs.declared.events.Event.TheVariants.{Expiry}
 use Rattle.records.specs.declared.messages.Message.{Message}
 use Rattle.records.specs.Tables.{flat, fine}
 use Rattle.records.specs.Events.{events}
 use Rattle.records.specs.Messages.{messages}
-use Rattle.timers.specs.Wrap.{shown}
 use Rattle.timers.specs.Due.{numbers}
 use Rattle.timers.specs.Bank.{length_in, entry_of}
 use Rattle.timers.proofs.Tests.{decide, by_test}
 use Rattle.timers.proofs.Indices.{by_index}
 use Rattle.callcontrol.specs.declared.call.State.{State}
-use Rattle.callcontrol.specs.declared.call.Path.{Path}
 use Rattle.callcontrol.specs.declared.call.Call.{Call}
-use Rattle.callcontrol.specs.Call.{fresh_call, runs, is_idle, state_number, T301, T302, T303, T306, T308, T310, T311}
-use Rattle.callcontrol.specs.Draft.{Draft}
+use Rattle.callcontrol.specs.Call.{fresh_call, runs, is_idle, state_number, T308, T311}
 use Rattle.callcontrol.specs.Rows.{row_for}
 use Rattle.callcontrol.specs.Writing.{messages_in}
 use Rattle.demands.specs.Runs as Steps
 use Rattle.demands.specs.Runs.{every?}
 use Rattle.demands.specs.Demands.{limits}
-use Rattle.demands.proofs.Facts.{apart, left, right}
+use Rattle.demands.proofs.Facts.{apart}
 use Rattle.demands.proofs.ByRow.{Row, is_row}
 use Rattle.demands.proofs.Demands.{step_in_range, idle_is_fresh}
-use Rattle.demands.proofs.Timers.{Timed, few}
+use Rattle.demands.proofs.Timers.{few}
 use Rattle.demands.proofs.Turns.{accepts}
 use Rattle.timed.specs.declared.set.Timed as Set
-use Rattle.timed.specs.Set.{table_right, held_at, turned}
+use Rattle.timed.specs.Set.{held_at, turned}
 use Rattle.timed.specs.Entries.{Outcome, turn_of}
 use Rattle.timed.specs.Times.{Begun, end, Clocks, is_due, dropped, noted_all}
-use Rattle.timed.specs.Runs.{Turn, step, due, time_of, table_of, outcome, is_taken, next, steps_by, taken_by, lapse, is_word, has_word, Kept, made, then, after, InReach, AllInReach}
+use Rattle.timed.specs.Runs.{Turn, step, due, time_of, table_of, outcome, is_taken, taken_by, is_word, has_word, Kept, made, then, after, InReach, AllInReach}
 use Rattle.timed.specs.Demands.{Silent, asks_anew, NoneAsked, Punctual, AllPunctual, Settled, Outlives, InSilence, Closes, ends_call, only_due}
 use Rattle.timed.proofs.Turns.{Did, Refused, Waited, Stepped, Lapsed, refused, waited, stepped, lapsed, did, next_is, lapse_turn}
-use Rattle.timed.proofs.Reach.{Reach, kept, clocked}
-use Rattle.timed.proofs.Holding.{Holds, holds_made, every_run, holds_after, holds_then, step_takes, limits_at, no_lapse, takes_one}
-use Rattle.timed.proofs.OnTime.{noted_all_at, clocks_refused, clocks_waited, clocks_made, none_runs_lem, some_runs, runs_so, not_beside, writes_row, last_refused, last_taken, settled_due, n₀, p_small, p_runs, is_first, row, clock_row, call_then, clocks_then, same_310, first_index}
+use Rattle.timed.proofs.Reach.{kept, clocked}
+use Rattle.timed.proofs.Holding.{Holds, every_run, holds_after, holds_then, step_takes, limits_at, no_lapse, takes_one}
+use Rattle.timed.proofs.OnTime.{noted_all_at, clocks_refused, clocks_waited, clocks_made, none_runs_lem, some_runs, runs_so, not_beside, writes_row, last_refused, last_taken, n₀, p_small, p_runs, row, clock_row, call_then, clocks_then, same_310, first_index}
 use Rattle.timed.proofs.Fates.{Watched, w301, w302, w303, w310, Ending, e306, ending, small, not_four, Fate, ends, closes, stays, fate, Last, is_over, goes_on, fate_308, idle_rests, idle_none, with_311, row_closes, row_over}
 
 -- ---- the set after a turn

@@ -2,9 +2,9 @@
 -- is refused, no byte is changed.
 use Prim.Native.Nat.{ℕ, ◌≤◌}
 use mathlib.Core.Path.{◌≡◌, refl, sym, ◌∙◌, ap}
-use mathlib.Core.Bool.{Bool, true, false, cond}
+use mathlib.Core.Bool.{true}
 use mathlib.Core.List.{List, [], ◌∷◌}
-use mathlib.Core.Option.{Option, none, some}
+use mathlib.Core.Option.{some}
 use native.Mathlib.Omega.{arith}
 use borrow.Author.Tests.{eq-eqb, ne_eqb, leb-true}
 use lib.Dec.{eqb, leb}
@@ -13,10 +13,8 @@ use lib.Seq.{length-sets}
 use denote.Enum.Declared as Declared
 use types.Run.{OneOf, miss}
 use Rattle.records.specs.declared.events.Event.{Event}
-use Rattle.records.specs.declared.messages.Message.{Message}
-use Rattle.records.specs.Tables.{taken, read, fine}
+use Rattle.records.specs.Tables.{taken, read}
 use Rattle.records.specs.Events.{events}
-use Rattle.records.specs.Messages.{messages}
 use Rattle.timers.specs.declared.bank.Bank.{Bank}
 use Rattle.timers.specs.Bank.{advanced_to}
 use Rattle.callcontrol.specs.declared.call.Call.{Call}
@@ -25,10 +23,9 @@ use Rattle.callcontrol.specs.declared.step.Stepped.{Stepped as CallStepped}
 use Rattle.callcontrol.specs.Call.{sound}
 use Rattle.callcontrol.specs.Rows.{row_for}
 use Rattle.callcontrol.specs.Writing.{messages_in, bytes_of}
-use Rattle.callcontrol.specs.Step.{Outcome as CallOutcome, answer_number, as_outcome as as_call_outcome, other_call, over_transmission, carried, decided, when_read, step_of}
+use Rattle.callcontrol.specs.Step.{Outcome as CallOutcome, answer_number, as_outcome as as_call_outcome, other_call, over_transmission, carried, decided, step_of}
 use Rattle.callcontrol.specs.contracts.step.Answer as answer
-use Rattle.demands.specs.Runs.{Turn, outcome, next, taken_by, written_by, messages_of, event_in, every?}
-use Rattle.demands.specs.Demands.{Kept}
+use Rattle.demands.specs.Runs.{Turn, outcome, next, taken_by, written_by}
 use Rattle.demands.proofs.Facts.{either}
 use Rattle.demands.proofs.Turns.{Accepted, accepts}
 use Rattle.demands.proofs.ReadsBack.{stored}

@@ -1,31 +1,25 @@
 -- Record and bank stay together over every run, and the record is the step's.
 use Prim.Native.Nat.{ℕ}
 use mathlib.Core.Path.{◌≡◌, refl, sym, ◌∙◌, ap}
-use mathlib.Core.Bool.{Bool, true, false, cond, ◌&&◌, beq}
+use mathlib.Core.Bool.{Bool, true, false, beq}
 use mathlib.Core.List.{List, [], ◌∷◌, ◌++◌, append_assoc, append-nil}
-use mathlib.Core.Option.{some}
 use native.Mathlib.Omega.{arith}
-use borrow.Author.Tests.{eqb-true, eqb-false, eq-eqb}
-use lib.Dec.{eqb}
 use lib.ListN.{length, get_or}
 use lib.Seq.{sets}
-use Rattle.timers.specs.Wrap.{shown}
 use Rattle.timers.specs.Bank.{new_bank}
 use Rattle.callcontrol.specs.declared.call.Call.{Call}
-use Rattle.callcontrol.specs.Call.{fresh_call, sound}
+use Rattle.callcontrol.specs.Call.{sound}
 use Rattle.callcontrol.specs.Writing.{bytes_of}
 use Rattle.demands.specs.Runs as Steps
 use Rattle.demands.proofs.Turns.{run-append}
 use Rattle.demands.proofs.Sound.{always}
 use Rattle.demands.proofs.Told.{told_is_plane}
-use Rattle.demands.proofs.Facts.{apart}
-use Rattle.demands.proofs.Demands.{zero_is_taken, taken_gives, never_unsound, place_only_with_four, refuses}
+use Rattle.demands.proofs.Demands.{zero_is_taken, taken_gives, never_unsound}
 use Rattle.timed.specs.declared.set.Timed.{Timed}
 use Rattle.timed.specs.Set.{new_of, same_flags, is_set, held_at, turned}
-use Rattle.timed.specs.Entries.{Outcome, refusal_at, turn_of}
-use Rattle.timed.specs.Runs.{Turn, step, due, lent_to, outcome, is_taken, next, run, steps_by, steps_in, written_by}
+use Rattle.timed.specs.Runs.{Turn, lent_to, outcome, next, run, steps_by, steps_in, written_by}
 use Rattle.timed.specs.Demands.{BankIsRecord, StaysSet, NeverNoSet, FollowsStep, AllTaken, StepsTaken, WritesStep, StepsAppend, ToldSet}
-use Rattle.timed.proofs.Turns.{Did, refused, waited, stepped, lapsed, did, next_is, lapse_turn}
+use Rattle.timed.proofs.Turns.{Did, refused, waited, stepped, lapsed, did, next_is}
 
 -- ---- one turn
 

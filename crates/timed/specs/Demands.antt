@@ -1,6 +1,6 @@
 -- What is claimed of a set over every run from new, as types. proofs/Demands.antt has a proof of each.
-use Rattle.std.specs.Prelude.{ℕ, ◌+◌, ◌-◌, ◌≤◌, ◌<◌, ◌≡◌, Bool, true, false, cond, not, ◌&&◌, ◌||◌, List, [], ◌∷◌, ◌++◌, leb, eqb, length, get_or}
-use Rattle.std.proofs.Math.Option.{Option, none, some}
+use Rattle.std.specs.Prelude.{ℕ, ◌+◌, ◌-◌, ◌≤◌, ◌<◌, ◌≡◌, Bool, true, false, cond, not, ◌&&◌, ◌||◌, List, [], ◌∷◌, ◌++◌, eqb, length}
+use Rattle.std.proofs.Math.Option.{none, some}
 use Rattle.std.proofs.lemmas.List.Edits.{sets}
 use Rattle.records.specs.declared.events.Event.{Event}
 use Rattle.records.specs.declared.events.Event.TheVariants.{Expiry}
@@ -18,8 +18,8 @@ use Rattle.demands.specs.Runs as Steps
 use Rattle.timed.specs.declared.set.Timed.{Timed}
 use Rattle.timed.specs.Set.{new_of, is_set, table_right, first_due}
 use Rattle.timed.specs.Entries.{Outcome, is_expiry, turn_of}
-use Rattle.timed.specs.Times.{Begun, end, Clocks, is_due, ordered, first_from, First}
-use Rattle.timed.specs.Runs.{Turn, step, due, time_of, table_of, lent_to, outcome, is_taken, next, run, steps_by, steps_in, taken_by, written_by, has_word, Kept, made, then, after, InReach, AllInReach}
+use Rattle.timed.specs.Times.{Begun, end, is_due, ordered, first_from, First}
+use Rattle.timed.specs.Runs.{Turn, step, due, time_of, table_of, lent_to, outcome, is_taken, next, run, steps_in, taken_by, written_by, has_word, Kept, made, then, after, InReach, AllInReach}
 
 -- (a) Record and bank stay together, whatever is handed in, lent and read
 

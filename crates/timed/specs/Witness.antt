@@ -1,10 +1,9 @@
 -- That the claims are not true for the wrong reason: runs that meet their premises, each term of the bound reached by one, and what goes wrong
 -- where a part of the premise does not hold.
-use Rattle.std.specs.Prelude.{ℕ, zero, suc, ◌+◌, ◌≡◌, Bool, true, false, cond, not, ◌&&◌, ◌||◌, List, [], ◌∷◌, eqb, leb, ltb, get_or}
+use Rattle.std.specs.Prelude.{ℕ, zero, suc, ◌+◌, ◌≡◌, Bool, true, false, not, ◌&&◌, ◌||◌, List, [], ◌∷◌, eqb, leb, ltb}
 use Rattle.std.proofs.Math.Option.{Option, none, some}
 use Rattle.timers.specs.Due.{numbers}
-use Rattle.callcontrol.specs.Call.{state_number, runs, T303, T310}
-use Rattle.timed.specs.Set.{table_right}
+use Rattle.callcontrol.specs.Call.{state_number, runs, T310}
 use Rattle.timed.specs.Times.{Begun, end, Clocks, is_due}
 use Rattle.timed.specs.Runs.{Turn, step, due, time_of, outcome, Kept, made, then, after}
 

@@ -1,14 +1,14 @@
 -- At a reading in reach the bank's keys are those of the true deadlines: so what is handed out is what is due in true time, in its order.
-use Rattle.std.proofs.Common.{◌≡◌, ℕ, zero, suc, ◌+◌, ◌-◌, ◌*◌, ◌%◌, ◌<◌, ◌≤◌, Bool, true, false, cond, ◌&&◌, ◌||◌, eqb, ltb, leb, List, [], ◌∷◌, map, length, get_or, sym, refl, ap, ◌∙◌, arith, lit<, ltb-false, lt-ltb, eq-eqb, ne_eqb, leb-false, leb-true}
+use Rattle.std.proofs.Common.{◌≡◌, ℕ, zero, suc, ◌+◌, ◌-◌, ◌*◌, ◌%◌, ◌<◌, ◌≤◌, Bool, true, false, cond, eqb, ltb, leb, List, [], ◌∷◌, map, length, get_or, sym, refl, ap, ◌∙◌, arith, lit<, ltb-false, lt-ltb, eq-eqb, ne_eqb, leb-false, leb-true}
 use mathlib.Core.Option.{Option, none, some}
-use Rattle.timers.specs.Wrap.{shown, forward, is_back}
+use Rattle.timers.specs.Wrap.{shown, forward}
 use Rattle.timers.specs.Due.{numbers, key_of, keys_of, one_if, count_of, below, number_of, handed}
 use Rattle.timers.specs.Bank.{index_of, keys_at}
 use Rattle.timers.specs.Time.{Times, is_due, Kept, occurs}
 use Rattle.timers.specs.Claims.{Runs, Holds, due_of, before?, before_all, in_order}
 use Rattle.timers.proofs.Tests.{by_test, decide, cond_same, All, weaken}
 use Rattle.timers.proofs.Keys.{most, sum, total, Distinct, falling, one_fewer, falling_total, falling_keys, sum_all, below_is, handed_is}
-use Rattle.timers.proofs.Indices.{by_index, by_number_lem, other_timer, rising}
+use Rattle.timers.proofs.Indices.{by_number_lem, other_timer, rising}
 use Rattle.timers.proofs.Wrapping.{not_back, back, ahead, behind}
 
 -- a timer's key in true time

@@ -1,5 +1,5 @@
 -- What each call makes of a bank: a refused one changes nothing, and a taken one what its definition says.
-use Rattle.std.proofs.Common.{◌≡◌, ℕ, ◌<◌, ◌≤◌, Bool, true, false, cond, eqb, ltb, leb, List, [], ◌++◌, length, get_or, take, drop, sym, refl, ap, ◌∙◌, true≢false, arith, ltb-false, ltb-true, leb-true}
+use Rattle.std.proofs.Common.{◌≡◌, ℕ, ◌<◌, ◌≤◌, true, false, cond, eqb, ltb, leb, List, [], ◌++◌, length, get_or, drop, refl, ap, true≢false, arith, ltb-false, ltb-true, leb-true}
 use mathlib.Core.Bool.{false≢true}
 use borrow.Author.Tests.{eqb-false}
 use Rattle.timers.specs.declared.bank.Bank.{Bank}
@@ -7,7 +7,7 @@ use Rattle.timers.specs.Wrap.{shown, forward, is_back}
 use Rattle.timers.specs.Due.{count_of}
 use Rattle.timers.specs.Bank.{Outcome, refusal, ordered, without, with, in_range, entry_of, length_in, index_of, stopped, started, advanced, advanced_to, handed_at, keys_at}
 use Rattle.timers.specs.Time.{Call, stop, start, reading, outcome, is_taken, handed_by, Kept, next, noted}
-use Rattle.timers.specs.Claims.{Unchanged, lent_by}
+use Rattle.timers.specs.Claims.{Unchanged}
 use Rattle.timers.proofs.Tests.{by_test}
 
 -- what an accepted reading gives back

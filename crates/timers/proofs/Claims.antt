@@ -1,13 +1,11 @@
 -- The proofs of the claims of specs/Claims.
-use Rattle.std.proofs.Common.{◌≡◌, ℕ, ◌+◌, ◌-◌, ◌<◌, ◌≤◌, Bool, true, false, cond, ◌&&◌, eqb, ltb, leb, List, [], ◌∷◌, ◌++◌, length, take, drop, replicate, sym, refl, ap, ◌∙◌, arith, take_at, eq-eqb}
-use mathlib.Core.Bool.{and-true}
+use Rattle.std.proofs.Common.{◌≡◌, ℕ, ◌+◌, ◌-◌, Bool, true, false, cond, ◌&&◌, eqb, ltb, leb, List, [], ◌∷◌, length, drop, replicate, sym, refl, ◌∙◌, arith, take_at, eq-eqb}
 use mathlib.Core.Option.{Option, none, some}
-use Rattle.timers.specs.declared.bank.Bank.{Bank}
 use Rattle.timers.specs.Wrap.{shown, forward, is_back}
 use Rattle.timers.specs.Due.{numbers, count_of}
 use Rattle.timers.specs.Bank.{advanced, handed_at, keys_at, length_in}
-use Rattle.timers.specs.Time.{Call, stop, start, reading, outcome, is_taken, handed_by, Times, is_due, Kept, noted, made, next, run, InReach, AllInReach, occurs, accepted_by, accepted, hands_out, handouts, orders_to, NotOrdered}
-use Rattle.timers.specs.Claims.{Holds, OnTime, EveryReading, Answered, EveryRun, Unchanged, first_from, due_of, in_order}
+use Rattle.timers.specs.Time.{Call, stop, start, reading, outcome, is_taken, handed_by, is_due, Kept, noted, made, next, run, InReach, AllInReach, accepted, hands_out, handouts, orders_to, NotOrdered}
+use Rattle.timers.specs.Claims.{Holds, OnTime, EveryReading, Answered, EveryRun, Unchanged, first_from, due_of}
 use Rattle.timers.proofs.Tests.{decide}
 use Rattle.timers.proofs.Wrapping.{not_back, ahead}
 use Rattle.timers.proofs.Agreement.{keys_are, count_is, handed_in, each_once, in_order_lem, length-handed, true_keys}

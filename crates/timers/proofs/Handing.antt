@@ -1,5 +1,5 @@
 -- Handing out one timer more: what stands in the list, and what is still to come.
-use Rattle.std.proofs.Common.{◌≡◌, ℕ, suc, ◌+◌, ◌-◌, ◌<◌, ◌≤◌, List, [], ◌∷◌, ◌++◌, length, take, drop, set, sym, refl, ap, ◌∙◌, append_assoc, add-one, arith, drop-drop, take-suc-set, drop-set-lt}
+use Rattle.std.proofs.Common.{◌≡◌, ℕ, suc, ◌+◌, ◌<◌, List, ◌++◌, length, take, drop, set, sym, ap, ◌∙◌, append_assoc, add-one, arith, drop-drop, take-suc-set, drop-set-lt}
 use Rattle.timers.specs.Due.{below, number_of, handed}
 
 pub one_more : (n i bound : ℕ) (due keys : List ℕ) → i < length due

@@ -1,18 +1,17 @@
 -- The invariant holds of a new bank, and every call in reach keeps it.
-use Rattle.std.proofs.Common.{◌≡◌, ℕ, ◌+◌, ◌-◌, ◌*◌, ◌%◌, ◌<◌, ◌≤◌, Bool, true, false, cond, ◌&&◌, eqb, ltb, leb, List, [], ◌∷◌, length, get_or, set, sym, refl, ap, ◌∙◌, subst, arith, lit<, length-set, get_or-set_other, get_or-set_same, ne_eqb, eqb-true, leb-false, leb-true}
+use Rattle.std.proofs.Common.{◌≡◌, ℕ, ◌+◌, ◌-◌, ◌*◌, ◌%◌, ◌<◌, ◌≤◌, Bool, true, false, cond, eqb, leb, List, [], ◌∷◌, get_or, sym, refl, ap, subst, arith, lit<, length-set, get_or-set_other, get_or-set_same, ne_eqb, eqb-true, leb-false}
 use mathlib.Core.Bool.{and-false}
 use mathlib.Core.Option.{Option, none, some}
 use borrow.Author.Tests.{eqb-false}
-use Rattle.timers.specs.declared.bank.Bank.{Bank}
 use Rattle.timers.specs.Wrap.{shown}
 use Rattle.timers.specs.Due.{numbers, stays, staying}
-use Rattle.timers.specs.Bank.{Outcome, without, with, index_of, length_in, new_bank, advanced_to, keys_at}
-use Rattle.timers.specs.Time.{Call, stop, start, reading, outcome, is_taken, Times, is_due, Kept, noted, made, next, run, InReach, AllInReach}
+use Rattle.timers.specs.Bank.{without, with, index_of, length_in, new_bank, advanced_to}
+use Rattle.timers.specs.Time.{Call, stop, start, reading, outcome, is_taken, is_due, Kept, noted, made, next, run, InReach, AllInReach}
 use Rattle.timers.specs.Claims.{Runs, Holds}
 use Rattle.timers.proofs.Tests.{decide, cond_same}
 use Rattle.timers.proofs.Indices.{by_index, same_timer}
 use Rattle.timers.proofs.Agreement.{true_key, true_keys, keys_are, above_zero}
-use Rattle.timers.proofs.Calls.{accepting, stop_taken, start_taken, reading_taken, length_most, refused_keeps, taken_makes}
+use Rattle.timers.proofs.Calls.{stop_taken, start_taken, reading_taken, length_most, refused_keeps, taken_makes}
 
 pub holds_made : (time : ℕ) → Holds (made time)
 unfolding made new_bank

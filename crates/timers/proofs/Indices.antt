@@ -1,5 +1,5 @@
 -- The seven timers: their numbers and their indices.
-use Rattle.std.proofs.Common.{◌≡◌, ℕ, zero, suc, ◌<◌, ◌≤◌, Bool, true, false, eqb, get_or, sym, refl, subst, arith, lit<, ne_eqb, eqb-true}
+use Rattle.std.proofs.Common.{◌≡◌, ℕ, zero, suc, ◌<◌, ◌≤◌, false, eqb, get_or, sym, refl, subst, arith, lit<, ne_eqb, eqb-true}
 use borrow.Author.Tests.{eqb-false}
 use Rattle.timers.specs.Due.{numbers}
 use Rattle.timers.specs.Bank.{index_of}

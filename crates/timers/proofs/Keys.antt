@@ -1,5 +1,5 @@
 -- Taking the greatest key below a bound again and again gives each key once, the greatest first.
-use Rattle.std.proofs.Common.{◌≡◌, ℕ, zero, suc, ◌+◌, ◌<◌, ◌≤◌, max, Bool, true, false, cond, eqb, ltb, List, [], ◌∷◌, map, sym, refl, ap, ◌∙◌, subst, zero-le, arith, ltb-false, ltb-true, le-ltb, lt-ltb, ne_eqb, eqb-true}
+use Rattle.std.proofs.Common.{◌≡◌, ℕ, zero, suc, ◌+◌, ◌<◌, ◌≤◌, max, cond, eqb, ltb, List, [], ◌∷◌, map, sym, refl, ap, ◌∙◌, subst, zero-le, arith, ltb-false, ltb-true, le-ltb, lt-ltb, ne_eqb, eqb-true}
 use Rattle.timers.specs.Due.{under, greater, one_if, below, number_of, handed}
 use Rattle.timers.proofs.Tests.{by_test, decide, All, weaken}
 

@@ -1,5 +1,5 @@
 -- The sign of a wrapped difference tells forward from back, where the true times are less than 2^31 apart.
-use Rattle.std.proofs.Common.{◌≡◌, ℕ, ◌+◌, ◌-◌, ◌%◌, ◌<◌, ◌≤◌, true, false, refl, zero-le, arith, le-ltb, lt-ltb}
+use Rattle.std.proofs.Common.{◌≡◌, ℕ, ◌+◌, ◌-◌, ◌<◌, ◌≤◌, true, false, zero-le, arith, le-ltb, lt-ltb}
 use Rattle.timers.specs.Wrap.{shown, forward, signed, is_back}
 
 pub not_back : (d : ℕ) → d < 2147483648 → is_back d ≡ false

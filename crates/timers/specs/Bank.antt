@@ -1,5 +1,5 @@
 -- The bank of timers, on readings of a 32-bit counter: each call's answer, the next bank, and what is handed out.
-use Rattle.std.specs.Prelude.{ℕ, ◌+◌, ◌%◌, Bool, true, false, cond, List, [], ◌∷◌, ◌++◌, length, drop, ◌==◌, nat_le, nat_lt, slice_index, slice_set}
+use Rattle.std.specs.Prelude.{ℕ, ◌+◌, ◌%◌, true, false, cond, List, [], ◌∷◌, ◌++◌, length, drop, ◌==◌, nat_le, nat_lt, slice_index, slice_set}
 use Rattle.timers.specs.declared.bank.Answer.{Answer}
 use Rattle.timers.specs.declared.bank.Bank.{Bank}
 use Rattle.timers.specs.declared.bank.Ordered.{Ordered}

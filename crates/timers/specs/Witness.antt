@@ -1,6 +1,6 @@
 -- That the claims are not true for the wrong reason: a run through two wraps of the counter, call by call, and what goes wrong where the
 -- premise does not hold.
-use Rattle.std.specs.Prelude.{◌≡◌, ℕ, zero, suc, ◌+◌, Bool, true, false, cond, ◌&&◌, List, [], ◌∷◌, length, ◌==◌, nat_le, nat_lt}
+use Rattle.std.specs.Prelude.{◌≡◌, ℕ, ◌+◌, Bool, true, false, ◌&&◌, List, [], ◌∷◌, ◌==◌, nat_le, nat_lt}
 use Rattle.timers.specs.Time.{Call, stop, start, reading, outcome, handed_by, Times, Kept, made, next, run}
 
 -- what a run shows: each call, its answer, and the timers that it hands out

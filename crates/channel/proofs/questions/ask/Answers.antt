@@ -1,5 +1,5 @@
 -- The checks in their order.
-use mathlib.Core.Path.{◌≡◌, sym, ◌∙◌}
+use mathlib.Core.Path.{sym, ◌∙◌}
 use borrow.Author.Tests.{not-true, not-false}
 use Rattle.channel.proofs.Asking.{ask_unsound, ask_call, ask_unknown, ask_waits, ask_replied}
 use Rattle.channel.proofs.questions.ask.Goals as goal

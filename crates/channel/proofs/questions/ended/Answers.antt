@@ -1,6 +1,5 @@
 -- The checks in their order, and the four rooms one after the other.
-use mathlib.Core.Path.{◌≡◌, sym, ◌∙◌}
-use lib.ListN.{length}
+use mathlib.Core.Path.{sym, ◌∙◌}
 use borrow.Author.Tests.{not-true, not-false}
 use Rattle.channel.proofs.Counting.{sound_of}
 use Rattle.channel.proofs.Asking.{same_room, too_long, size_four, end_unsound, end_call, end_rejects, end_done}

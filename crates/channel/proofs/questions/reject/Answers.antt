@@ -1,5 +1,5 @@
 -- By whether the question is of the call.
-use mathlib.Core.Path.{◌≡◌, sym, ◌∙◌}
+use mathlib.Core.Path.{sym, ◌∙◌}
 use Rattle.channel.proofs.Asking.{one_laid, lays_reject, lays_nothing}
 use Rattle.channel.proofs.questions.reject.Goals as goal
 

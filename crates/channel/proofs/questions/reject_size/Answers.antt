@@ -1,5 +1,4 @@
 -- By whether the question is of the call.
-use mathlib.Core.Path.{refl}
 use native.Mathlib.Omega.{arith}
 use Rattle.channel.specs.Questions.{reject_size}
 use Rattle.channel.proofs.questions.reject_size.Goals as goal

@@ -1,11 +1,10 @@
 -- No place, no room, or all.
 use Prim.Native.Nat.{ℕ}
-use mathlib.Core.Path.{◌≡◌, sym, ◌∙◌, ap}
+use mathlib.Core.Path.{sym, ◌∙◌, ap}
 use mathlib.Core.List.{List, ◌++◌}
-use native.Mathlib.Omega.{arith}
-use lib.ListN.{length, drop}
+use lib.ListN.{drop}
 use Rattle.console.proofs.Rooms.{own_room}
-use Rattle.console.proofs.Everywhere.{own_fits, front_size, front_within, none_takes, no_space, all_take}
+use Rattle.console.proofs.Everywhere.{own_fits, front_size, none_takes, no_space, all_take}
 use borrow.Author.Rules.{rules}
 use Rattle.console.proofs.console.everywhere.Goals as goal
 

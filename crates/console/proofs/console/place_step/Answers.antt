@@ -1,5 +1,4 @@
 -- The step is lent the buffer behind five bytes; where it writes, the record that names the place goes into those.
-use native.Mathlib.Omega.{arith}
 use Rattle.console.proofs.Placing.{head_fits, unwritten, written, step_few}
 use Rattle.console.proofs.console.place_step.Goals as goal
 

@@ -1,11 +1,9 @@
 -- Each key that is passed is another.
 use Prim.Native.Nat.{ℕ, ◌≤◌, ◌-◌}
 use mathlib.Core.Path.{◌≡◌}
-use native.Mathlib.Omega.{arith}
-use borrow.Author.Tests.{eq-eqb, ne_eqb}
 use lib.Dec.{eqb}
 use lib.ListN.{length}
-use Rattle.console.proofs.ByKeys.{Passed, found, goes_on, not_found}
+use Rattle.console.proofs.ByKeys.{Passed}
 use Rattle.console.proofs.keys.held_by.Given as goal
 
 abbrev pub invariant-loop-k : goal.invariant-loop-k

@@ -1,11 +1,7 @@
 -- Each key that is passed is an identifier.
-use Prim.Native.Nat.{◌≤◌, ◌-◌}
-use mathlib.Core.Path.{◌≡◌}
 use native.Mathlib.Omega.{arith}
 use borrow.Author.Tests.{le-leb, lt-leb}
-use lib.Dec.{leb}
-use lib.ListN.{length}
-use Rattle.console.proofs.ByKeys.{Passed, found, goes_on, not_found}
+use Rattle.console.proofs.ByKeys.{found, goes_on, not_found}
 use borrow.Author.Rules.{rules}
 use Rattle.console.proofs.keys.idle_by.Goals as goal
 

@@ -1,11 +1,9 @@
 -- Each key that is passed is an identifier.
 use Prim.Native.Nat.{◌≤◌, ◌-◌}
 use mathlib.Core.Path.{◌≡◌}
-use native.Mathlib.Omega.{arith}
-use borrow.Author.Tests.{le-leb, lt-leb}
 use lib.Dec.{leb}
 use lib.ListN.{length}
-use Rattle.console.proofs.ByKeys.{Passed, found, goes_on, not_found}
+use Rattle.console.proofs.ByKeys.{Passed}
 use Rattle.console.proofs.keys.idle_by.Given as goal
 
 abbrev pub invariant-loop-k : goal.invariant-loop-k

@@ -1,9 +1,7 @@
 -- Each key that is passed is stored.
-use Prim.Native.Nat.{◌≤◌, ◌-◌}
-use mathlib.Core.Path.{◌≡◌, refl}
+use mathlib.Core.Path.{refl}
 use native.Mathlib.Omega.{arith}
-use lib.ListN.{length}
-use Rattle.console.proofs.ByKeys.{keys_first, key_next, all_keys}
+use Rattle.console.proofs.ByKeys.{key_next, all_keys}
 use borrow.Author.Rules.{rules}
 use Rattle.console.proofs.keys.keys_of.Goals as goal
 

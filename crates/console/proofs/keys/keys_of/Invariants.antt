@@ -1,9 +1,8 @@
 -- Each key that is passed is stored.
 use Prim.Native.Nat.{◌≤◌, ◌-◌}
-use mathlib.Core.Path.{◌≡◌, refl}
-use native.Mathlib.Omega.{arith}
+use mathlib.Core.Path.{◌≡◌}
 use lib.ListN.{length}
-use Rattle.console.proofs.ByKeys.{keys_first, key_next, all_keys}
+use Rattle.console.proofs.ByKeys.{keys_first}
 use Rattle.console.proofs.keys.keys_of.Given as goal
 
 abbrev pub invariant-loop-k : goal.invariant-loop-k

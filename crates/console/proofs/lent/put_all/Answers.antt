@@ -1,12 +1,11 @@
 -- Each place takes its turn: `put_more`; behind the last all have (`put_all`).
-use Prim.Native.Nat.{ℕ, ◌+◌, ◌<◌, ◌≤◌}
+use Prim.Native.Nat.{◌+◌}
 use mathlib.Core.Path.{sym, subst}
 use mathlib.Core.List.{List}
-use lib.ListN.{length}
 use native.Mathlib.Omega.{arith}
 use borrow.Author.Rules.{rules}
 use Rattle.callcontrol.specs.declared.call.Call.{Call}
-use Rattle.console.proofs.Everywhere.{Putting, put_none, put_more, put_all, same_room, as_many, room_more}
+use Rattle.console.proofs.Everywhere.{Putting, put_none, put_more, put_all, as_many, room_more}
 use Rattle.console.proofs.lent.put_all.Goals as goal
 
 pub loop-k-init : goal.loop-k-init

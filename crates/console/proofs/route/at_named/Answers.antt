@@ -1,6 +1,5 @@
 -- By whether there is such a place.
 use borrow.Author.Tests.{lt-ltb, le-ltb}
-use native.Mathlib.Omega.{arith}
 use Rattle.console.specs.Route.{at_named}
 use Rattle.console.proofs.route.at_named.Goals as goal
 

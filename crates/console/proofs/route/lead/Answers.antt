@@ -1,5 +1,5 @@
 -- What reading answers, then where the event goes.
-use mathlib.Core.Path.{◌≡◌, refl, sym, ◌∙◌}
+use mathlib.Core.Path.{◌≡◌, refl}
 use mathlib.Core.List.{List, [], ◌∷◌}
 use Prim.Native.Nat.{ℕ}
 use denote.Enum.Declared as Declared
@@ -8,7 +8,7 @@ use Rattle.records.specs.declared.events.EventRead.{EventRead}
 use Rattle.records.specs.Events.{as_event_read}
 use Rattle.records.specs.contracts.events.EventRead as event-read
 use Rattle.callcontrol.specs.Step.{answer_number, unread_as, place_in}
-use Rattle.console.specs.Keys.{Lead, goes_nowhere, lead_by}
+use Rattle.console.specs.Keys.{goes_nowhere, lead_by}
 use borrow.Enum.Refused.{opened}
 use Rattle.console.proofs.route.lead.Goals as goal
 

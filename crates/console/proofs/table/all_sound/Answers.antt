@@ -1,11 +1,8 @@
 -- Each place that is passed is sound.
-use Prim.Native.Nat.{◌≤◌, ◌-◌, ◌+◌}
-use mathlib.Core.Path.{◌≡◌, refl, sym, ◌∙◌}
+use mathlib.Core.Path.{refl, sym, ◌∙◌}
 use native.Mathlib.Omega.{arith}
 use borrow.Author.Tests.{not-true, not-false}
-use lib.ListN.{length, drop}
 use Rattle.callcontrol.specs.Call.{sound}
-use Rattle.console.specs.Table.{every?}
 use Rattle.console.proofs.Places.{every_not, every_later, every_end}
 use borrow.Author.Rules.{rules}
 use Rattle.console.proofs.table.all_sound.Goals as goal

@@ -1,12 +1,9 @@
 -- Each place that is passed is sound.
-use Prim.Native.Nat.{◌≤◌, ◌-◌, ◌+◌}
-use mathlib.Core.Path.{◌≡◌, refl, sym, ◌∙◌}
-use native.Mathlib.Omega.{arith}
-use borrow.Author.Tests.{not-true, not-false}
+use Prim.Native.Nat.{◌≤◌, ◌-◌}
+use mathlib.Core.Path.{◌≡◌}
 use lib.ListN.{length, drop}
 use Rattle.callcontrol.specs.Call.{sound}
 use Rattle.console.specs.Table.{every?}
-use Rattle.console.proofs.Places.{every_not, every_later, every_end}
 use Rattle.console.proofs.table.all_sound.Given as goal
 
 abbrev pub invariant-loop-k : goal.invariant-loop-k

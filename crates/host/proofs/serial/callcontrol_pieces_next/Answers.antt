@@ -1,5 +1,5 @@
 -- Bytes that are no reader are refused; else what `next` gives is packed.
-use Rattle.host.proofs.SerialLine.{Two, no_reader, a_reader, small, hands_on}
+use Rattle.host.proofs.SerialLine.{no_reader, a_reader, small, hands_on}
 use Rattle.host.proofs.serial.callcontrol_pieces_next.Goals as goal
 
 pub returns-then-not-is_reader : goal.returns-then-not-is_reader

@@ -1,9 +1,6 @@
 -- Each part that is passed is held where the definition has it.
-use Prim.Native.Nat.{◌≤◌, ◌-◌}
-use mathlib.Core.Path.{◌≡◌}
 use native.Mathlib.Omega.{arith}
-use lib.ListN.{length}
-use Rattle.host_console.proofs.Tables.{held_first, hold_next, all_held}
+use Rattle.host_console.proofs.Tables.{hold_next, all_held}
 use Rattle.host_console.proofs.table.held_table.Goals as goal
 
 pub loop-k-init : goal.loop-k-init

@@ -1,9 +1,8 @@
 -- Each part that is passed is held where the definition has it.
 use Prim.Native.Nat.{◌≤◌, ◌-◌}
 use mathlib.Core.Path.{◌≡◌}
-use native.Mathlib.Omega.{arith}
 use lib.ListN.{length}
-use Rattle.host_console.proofs.Tables.{held_first, hold_next, all_held}
+use Rattle.host_console.proofs.Tables.{held_first}
 use Rattle.host_console.proofs.table.held_table.Given as goal
 
 abbrev pub invariant-loop-k : goal.invariant-loop-k

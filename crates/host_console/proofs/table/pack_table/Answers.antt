@@ -1,9 +1,7 @@
 -- Each part that is passed is packed.
-use Prim.Native.Nat.{◌≤◌, ◌-◌}
-use mathlib.Core.Path.{◌≡◌, refl, sym, ◌∙◌}
+use mathlib.Core.Path.{refl, sym, ◌∙◌}
 use native.Mathlib.Omega.{arith}
-use lib.ListN.{length}
-use Rattle.host_console.proofs.Tables.{Packing, pack_next, first_packed}
+use Rattle.host_console.proofs.Tables.{pack_next, first_packed}
 use borrow.Author.Rules.{rules}
 use Rattle.host_console.proofs.table.pack_table.Goals as goal
 

@@ -1,9 +1,8 @@
 -- Each part that is passed is packed.
 use Prim.Native.Nat.{◌≤◌, ◌-◌}
-use mathlib.Core.Path.{◌≡◌, refl, sym, ◌∙◌}
-use native.Mathlib.Omega.{arith}
+use mathlib.Core.Path.{◌≡◌}
 use lib.ListN.{length}
-use Rattle.host_console.proofs.Tables.{Packing, pack_next, first_packed}
+use Rattle.host_console.proofs.Tables.{Packing}
 use Rattle.host_console.proofs.table.pack_table.Given as goal
 
 abbrev pub invariant-loop-place : goal.invariant-loop-place

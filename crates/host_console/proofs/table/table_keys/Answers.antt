@@ -1,17 +1,13 @@
 -- Each part that is passed is a record and a sound one, and its key is stored; then the keys are told apart.
-use Prim.Native.Nat.{◌≤◌, ◌-◌}
-use mathlib.Core.Path.{◌≡◌, refl, sym, ◌∙◌, ap}
-use mathlib.Core.Bool.{true}
+use mathlib.Core.Path.{refl, sym, ◌∙◌, ap}
 use native.Mathlib.Omega.{arith}
 use borrow.Author.Tests.{eq-eqb, not-true, not-false}
-use lib.ListN.{length, drop}
 use Rattle.callcontrol.specs.Call.{sound}
-use Rattle.console.specs.Table.{every?}
 use Rattle.console.specs.Keys.{key_of}
 use Rattle.console.proofs.Places.{every_not, every_later, every_end}
-use Rattle.console.proofs.ByKeys.{keys_first, key_next, all_keys}
+use Rattle.console.proofs.ByKeys.{key_next, all_keys}
 use Rattle.host_console.specs.Table.{held_table}
-use Rattle.host_console.proofs.Tables.{first_are, other_part, part_more, all_parts, part_held, eight_held, not_all_bytes, not_a_record, not_sound, all_read}
+use Rattle.host_console.proofs.Tables.{other_part, part_more, all_parts, part_held, eight_held, not_all_bytes, not_a_record, not_sound, all_read}
 use Rattle.host_console.proofs.table.table_keys.Goals as goal
 
 pub returns-then-s-ne176 : goal.returns-then-s-ne176

@@ -4,7 +4,7 @@ use mathlib.Core.List.{List, ◌++◌}
 use mathlib.Core.Path.{sym, ◌∙◌, ap}
 use native.Mathlib.Omega.{arith}
 use lib.ListN.{length, drop}
-use Rattle.console.proofs.Everywhere.{own_fits, front_size, front_within}
+use Rattle.console.proofs.Everywhere.{own_fits, front_size}
 use Rattle.console.proofs.Rooms.{own_room}
 use Rattle.host_console.proofs.Tables.{table_length, eight_held}
 use Rattle.host_console.proofs.All.{few, none_left, short_left, all_left}

@@ -21,7 +21,6 @@ low_two w =
 
 halves : (v : ℕ) → bytes 2 (v % 65536) ++ bytes 2 (v / 65536 % 65536) ≡ bytes 4 v
 unfolding bytes
-
 halves v = let f : v / 256 / 256 ≡ v / 65536 = omega arith in cc (low_two v, low_two (v / 65536))
 
 pub put_word-requires : goal.put_word-requires

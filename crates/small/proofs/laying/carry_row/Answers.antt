@@ -1,12 +1,11 @@
 -- The messages are laid in a room of our own, and copied where they fit.
 use Prim.Native.Nat.{ℕ}
-use mathlib.Core.Path.{◌≡◌, ap}
+use mathlib.Core.Path.{ap}
 use mathlib.Core.List.{List, ◌++◌}
-use native.Mathlib.Omega.{arith}
-use lib.ListN.{length, drop}
+use lib.ListN.{drop}
 use Rattle.callcontrol.specs.Settle.{settled}
 use Rattle.callcontrol.proofs.Carried.{too_long}
-use Rattle.small.proofs.Own.{own_fits, front_size, front_within, sized, carries}
+use Rattle.small.proofs.Own.{own_fits, sized, carries}
 use Rattle.small.proofs.laying.carry_row.Goals as goal
 
 pub returns-then-buffer-size : goal.returns-then-buffer-size

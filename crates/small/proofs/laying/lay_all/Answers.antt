@@ -1,13 +1,9 @@
 -- What is left of the places is still to be stored, and what is left of the turns still to be taken.
-use Prim.Native.Nat.{ℕ, ◌*◌, ◌-◌, ◌≤◌}
+use Prim.Native.Nat.{◌-◌}
 use mathlib.Core.Path.{◌≡◌, refl, ◌∙◌}
-use mathlib.Core.Bool.{false}
-use mathlib.Core.List.{List}
 use native.Mathlib.Omega.{arith}
-use lib.ListN.{length, get_or}
-use Rattle.records.specs.Bodies.{Stored}
 use Rattle.records.proofs.Laws.{stored_none}
-use Rattle.small.specs.Places.{number_in, turns, places_from, Alike}
+use Rattle.small.specs.Places.{number_in, turns, places_from}
 use Rattle.small.proofs.Letters.{same_room}
 use Rattle.small.proofs.Places.{alike_refl, alike_then, next_place, later, next_turn, same_number}
 use Rattle.small.proofs.laying.lay_all.Goals as goal

@@ -1,14 +1,12 @@
 -- What is left of the letters is still to be stored.
-use Prim.Native.Nat.{ℕ, ◌+◌, ◌*◌, ◌%◌, ◌≤◌, ◌<◌}
+use Prim.Native.Nat.{◌%◌, ◌<◌}
 use mathlib.Core.Path.{◌≡◌, refl, ◌∙◌}
-use mathlib.Core.Bool.{true}
-use mathlib.Core.List.{List}
 use native.Mathlib.Omega.{arith}
-use lib.ListN.{length, get_or}
+use lib.ListN.{get_or}
 use Rattle.records.specs.Bytes.{bytes}
 use Rattle.records.specs.Bodies.{Stored}
 use Rattle.records.proofs.Laws.{stored_none, length-bytes}
-use Rattle.small.specs.Entry.{width_of, spell, spelled, body}
+use Rattle.small.specs.Entry.{width_of, body}
 use Rattle.small.proofs.Letters.{no_letters, a_letter, one_letter, same_room}
 use borrow.Author.Rules.{rules}
 use Rattle.small.proofs.laying.lay_body.Goals as goal

@@ -1,15 +1,11 @@
 -- What is left of the letters is still to be stored.
-use Prim.Native.Nat.{ℕ, ◌+◌, ◌*◌, ◌%◌, ◌≤◌, ◌<◌}
-use mathlib.Core.Path.{◌≡◌, refl, ◌∙◌}
+use Prim.Native.Nat.{ℕ, ◌+◌, ◌*◌, ◌≤◌, ◌<◌}
+use mathlib.Core.Path.{◌≡◌}
 use mathlib.Core.Bool.{true}
 use mathlib.Core.List.{List}
-use native.Mathlib.Omega.{arith}
-use lib.ListN.{length, get_or}
-use Rattle.records.specs.Bytes.{bytes}
+use lib.ListN.{length}
 use Rattle.records.specs.Bodies.{Stored}
-use Rattle.records.proofs.Laws.{stored_none, length-bytes}
-use Rattle.small.specs.Entry.{width_of, spell, spelled, body}
-use Rattle.small.proofs.Letters.{no_letters, a_letter, one_letter, same_room}
+use Rattle.small.specs.Entry.{spell, spelled, body}
 use Rattle.small.proofs.laying.lay_body.Given as goal
 
 abbrev pub invariant-loop-left : goal.invariant-loop-left

@@ -1,6 +1,5 @@
 -- Each number has its message, and behind the last there is none.
-use mathlib.Core.Path.{◌≡◌, refl, sym}
-use lib.ListN.{get_or}
+use mathlib.Core.Path.{refl, sym}
 use Rattle.small.specs.Entry.{entries}
 use Rattle.small.proofs.Scan.{past_end, not_below}
 use Rattle.small.proofs.laying.message_at.Goals as goal

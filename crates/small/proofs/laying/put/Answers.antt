@@ -1,9 +1,8 @@
 -- After k turns the first k bytes are stored, and x is what is left of the number.
-use Prim.Native.Nat.{suc, ◌+◌, ◌-◌, ◌≤◌}
+use Prim.Native.Nat.{suc, ◌+◌, ◌-◌}
 use mathlib.Core.Path.{◌≡◌, refl, ◌∙◌}
 use native.Mathlib.Omega.{arith}
-use lib.ListN.{length, length-set}
-use lib.Seq.{sets}
+use lib.ListN.{length-set}
 use Rattle.records.specs.Bytes.{bytes}
 use Rattle.records.proofs.Laws.{length-bytes}
 use Rattle.small.proofs.Storing.{one_more}

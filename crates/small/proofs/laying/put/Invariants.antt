@@ -1,12 +1,9 @@
 -- After k turns the first k bytes are stored, and x is what is left of the number.
-use Prim.Native.Nat.{suc, ◌+◌, ◌-◌, ◌≤◌}
-use mathlib.Core.Path.{◌≡◌, refl, ◌∙◌}
-use native.Mathlib.Omega.{arith}
-use lib.ListN.{length, length-set}
+use Prim.Native.Nat.{◌+◌, ◌-◌, ◌≤◌}
+use mathlib.Core.Path.{◌≡◌}
+use lib.ListN.{length}
 use lib.Seq.{sets}
 use Rattle.records.specs.Bytes.{bytes}
-use Rattle.records.proofs.Laws.{length-bytes}
-use Rattle.small.proofs.Storing.{one_more}
 use Rattle.small.proofs.laying.put.Given as goal
 
 abbrev pub invariant-loop-k : goal.invariant-loop-k

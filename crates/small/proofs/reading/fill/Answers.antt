@@ -1,12 +1,12 @@
 -- What is left of the letters is still to be filled in.
-use Prim.Native.Nat.{◌+◌, ◌≤◌, ◌<◌, ◌/◌, ◌%◌}
+use Prim.Native.Nat.{◌≤◌, ◌<◌, ◌/◌, ◌%◌}
 use mathlib.Core.Path.{◌≡◌, refl, sym, ◌∙◌}
 use native.Mathlib.Nat.{le_trans}
 use native.Mathlib.Omega.{arith}
-use lib.ListN.{length, get_or}
+use lib.ListN.{get_or}
 use Rattle.small.specs.Entry.{spell}
 use Rattle.small.proofs.Letters.{no_letters}
-use Rattle.small.specs.Reading.{letters, slot_in, fill, total, caps, Under}
+use Rattle.small.specs.Reading.{letters, slot_in, fill, caps}
 use Rattle.small.proofs.Slots.{a_letter, under_set, fill_first, total_first, too_low, too_high, in_range_lem}
 use borrow.Author.Rules.{rules}
 use Rattle.small.proofs.reading.fill.Goals as goal
@@ -27,9 +27,12 @@ pub returns-then-x-l : goal.returns-then-x-l
 returns-then-x-l c =
     let a = c.args in
     let n = c.number_at-x in
-    let e = get_or letters (c.loop-left.left % 16) 0 in (record { v_after = too_low e c.loop-left.v a.s.now c.loop-left.at n.result _ n.ensures c.loop-left.invariant.1 c.if-x-l.true
+    let e = get_or letters (c.loop-left.left % 16) 0 in (record {
+      v_after = too_low e c.loop-left.v a.s.now c.loop-left.at n.result _ n.ensures c.loop-left.invariant.1 c.if-x-l.true
           ∙ sym (fill_first c.loop-left.left c.loop-left.v a.s.now c.loop-left.at c.loop-left.invariant.0 (omega arith))
-          ∙ c.loop-left.invariant.4; under = c.loop-left.invariant.3 })
+          ∙ c.loop-left.invariant.4;
+      under = c.loop-left.invariant.3;
+    })
 
 pub overflow_cast-result-then-l-x : goal.overflow_cast-result-then-l-x
 overflow_cast-result-then-l-x c = omega (arith, c.loop-left.invariant.2, c.requires.2)
@@ -38,9 +41,12 @@ pub returns-then-l-x : goal.returns-then-l-x
 returns-then-l-x c =
     let a = c.args in
     let n = c.number_at-x in
-    let e = get_or letters (c.loop-left.left % 16) 0 in (record { v_after = too_high e c.loop-left.v a.s.now c.loop-left.at n.result _ n.ensures c.loop-left.invariant.1 c.if-x-l.false c.if-l-x.true
+    let e = get_or letters (c.loop-left.left % 16) 0 in (record {
+      v_after = too_high e c.loop-left.v a.s.now c.loop-left.at n.result _ n.ensures c.loop-left.invariant.1 c.if-x-l.false c.if-l-x.true
           ∙ sym (fill_first c.loop-left.left c.loop-left.v a.s.now c.loop-left.at c.loop-left.invariant.0 (omega arith))
-          ∙ c.loop-left.invariant.4; under = c.loop-left.invariant.3 })
+          ∙ c.loop-left.invariant.4;
+      under = c.loop-left.invariant.3;
+    })
 
 pub offset_bounds-v-slot : goal.offset_bounds-v-slot
 offset_bounds-v-slot c = search (rules, (a_letter (c.loop-left.left % 16) (omega arith)).place)

@@ -1,13 +1,9 @@
 -- What is left of the letters is still to be filled in.
-use Prim.Native.Nat.{◌+◌, ◌≤◌, ◌<◌, ◌/◌, ◌%◌}
-use mathlib.Core.Path.{◌≡◌, refl, sym, ◌∙◌}
-use native.Mathlib.Nat.{le_trans}
-use native.Mathlib.Omega.{arith}
-use lib.ListN.{length, get_or}
+use Prim.Native.Nat.{◌+◌, ◌≤◌, ◌<◌}
+use mathlib.Core.Path.{◌≡◌}
+use lib.ListN.{length}
 use Rattle.small.specs.Entry.{spell}
-use Rattle.small.proofs.Letters.{no_letters}
-use Rattle.small.specs.Reading.{letters, slot_in, fill, total, caps, Under}
-use Rattle.small.proofs.Slots.{a_letter, under_set, fill_first, total_first, too_low, too_high, in_range_lem}
+use Rattle.small.specs.Reading.{fill, total, caps, Under}
 use Rattle.small.proofs.reading.fill.Given as goal
 
 abbrev pub invariant-loop-left : goal.invariant-loop-left

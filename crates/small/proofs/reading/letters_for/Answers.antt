@@ -1,6 +1,5 @@
 -- The shorter body, the longer one, or none.
-use mathlib.Core.Path.{refl, sym, ◌∙◌}
-use native.Mathlib.Omega.{arith}
+use mathlib.Core.Path.{refl}
 use borrow.Author.Tests.{eq-eqb, ne_eqb}
 use Rattle.small.specs.Reading.{letters_for}
 use Rattle.small.proofs.reading.letters_for.Goals as goal

@@ -1,12 +1,8 @@
 -- The rows before k do not fit.
-use Prim.Native.Nat.{ℕ, suc, ◌+◌, ◌-◌, ◌^◌, ◌≤◌, ◌<◌}
-use mathlib.Core.Path.{◌≡◌, refl, sym, ◌∙◌}
-use native.Mathlib.Omega.{arith}
-use lib.ListN.{length, get_or}
-use mathlib.Core.Bool.{Bool, true, false, cond}
-use mathlib.Core.List.{List}
-use Rattle.small.specs.Table.{fits, first_of, rows}
-use Rattle.small.proofs.Scan.{after, here, none_after, above, skipped}
+use Prim.Native.Nat.{◌-◌, ◌^◌}
+use mathlib.Core.Path.{◌≡◌}
+use Rattle.small.specs.Table.{first_of, rows}
+use Rattle.small.proofs.Scan.{after}
 use Rattle.small.proofs.rows.found.Given as goal
 
 abbrev pub invariant-loop-k : goal.invariant-loop-k

@@ -1,8 +1,5 @@
 -- Each place has its row, and behind the last there is none.
-use Prim.Native.Nat.{◌≤◌}
-use mathlib.Core.Path.{◌≡◌, refl, sym}
-use native.Mathlib.Omega.{arith}
-use lib.ListN.{length, get_or}
+use mathlib.Core.Path.{refl, sym}
 use Rattle.small.specs.Table.{rows}
 use Rattle.small.proofs.Scan.{past_end, not_below}
 use Rattle.small.proofs.table.row_at.Goals as goal

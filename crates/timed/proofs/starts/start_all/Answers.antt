@@ -1,9 +1,9 @@
 -- Each message begins where the one before it ends, until no byte is left.
-use Prim.Native.Nat.{◌+◌, ◌-◌, ◌≤◌, ◌<◌}
+use Prim.Native.Nat.{◌+◌, ◌≤◌, ◌<◌}
 use lib.ListN.{length}
 use borrow.Author.Rules.{rules}
 use native.Mathlib.Omega.{arith}
-use Rattle.timed.proofs.Fronts.{Going, begun, begins_at, front_two, goes_on, within, shorter, all_done}
+use Rattle.timed.proofs.Fronts.{begun, begins_at, front_two, goes_on, within, shorter, all_done}
 use Rattle.timed.proofs.starts.start_all.Goals as goal
 
 pub loop-at-init : goal.loop-at-init

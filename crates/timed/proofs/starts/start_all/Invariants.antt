@@ -1,8 +1,7 @@
 -- Each message begins where the one before it ends, until no byte is left.
-use Prim.Native.Nat.{◌+◌, ◌-◌, ◌≤◌, ◌<◌}
+use Prim.Native.Nat.{◌-◌, ◌≤◌}
 use lib.ListN.{length}
-use native.Mathlib.Omega.{arith}
-use Rattle.timed.proofs.Fronts.{Going, begun, begins_at, front_two, goes_on, within, shorter, all_done}
+use Rattle.timed.proofs.Fronts.{Going}
 use Rattle.timed.proofs.starts.start_all.Given as goal
 
 abbrev pub invariant-loop-at : goal.invariant-loop-at

@@ -1,6 +1,6 @@
 -- By the number.
 use Rattle.timers.specs.Bank.{entry_of}
-use Rattle.std.proofs.Common.{rules, ne_eqb}
+use Rattle.std.proofs.Common.{ne_eqb}
 use Rattle.timers.proofs.bank.entry_of.Goals as goal
 
 pub returns-in-301 : goal.returns-in-301

@@ -1,5 +1,4 @@
 -- Pair by pair, as the definition goes.
-use Rattle.std.proofs.Common.{arith, rules}
 use Rattle.timers.specs.Due.{below}
 use Rattle.timers.proofs.due.below.Goals as goal
 

@@ -1,6 +1,5 @@
 -- The sum, key by key.
 use Rattle.timers.specs.Due.{count_of}
-use Rattle.std.proofs.Common.{rules}
 use Rattle.timers.proofs.due.count_of.Goals as goal
 
 pub returns : goal.returns

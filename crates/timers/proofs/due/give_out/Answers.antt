@@ -1,7 +1,7 @@
 -- After i turns the first i elements are handed out, those still to come are the keys below the bound, and the later elements are as they
 -- came in.
-use Rattle.std.proofs.Common.{◌≡◌, ℕ, suc, ◌+◌, ◌-◌, ◌<◌, ◌≤◌, List, [], ◌∷◌, ◌++◌, length, take, drop, set, sym, refl, ap, ◌∙◌, append-nil, arith, length-set, take-append-drop, rules}
-use Rattle.timers.specs.Due.{handed, below, number_of}
+use Rattle.std.proofs.Common.{◌≡◌, suc, ◌+◌, ◌-◌, ◌<◌, [], ◌++◌, length, take, sym, refl, ◌∙◌, append-nil, arith, length-set, take-append-drop}
+use Rattle.timers.specs.Due.{handed}
 use Rattle.timers.proofs.Handing.{one_more, later_stay}
 use Rattle.timers.proofs.due.give_out.Goals as goal
 

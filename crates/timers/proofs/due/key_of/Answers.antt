@@ -1,6 +1,5 @@
 -- By the two tests; a late timer's key fits, its lateness being below 2^32.
 use Rattle.timers.specs.Due.{key_of}
-use Rattle.std.proofs.Common.{arith, rules}
 use borrow.Author.Tests.{not-true, not-false}
 use Rattle.timers.proofs.due.key_of.Goals as goal
 

@@ -1,5 +1,4 @@
 -- The greater is taken where it is below the bound, and where it is not it counts for nothing.
-use Rattle.std.proofs.Common.{rules}
 use Rattle.timers.proofs.Pairs.{high_taken, low_taken}
 use Rattle.timers.proofs.due.of_pair.Goals as goal
 

@@ -1,5 +1,4 @@
 -- Pair by pair, as the definition goes.
-use Rattle.std.proofs.Common.{rules}
 use Rattle.timers.specs.Due.{paired}
 use Rattle.timers.proofs.due.paired.Goals as goal
 

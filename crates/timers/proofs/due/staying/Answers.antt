@@ -1,6 +1,5 @@
 -- Timer by timer, as the definition goes.
 use Rattle.timers.specs.Due.{staying}
-use Rattle.std.proofs.Common.{rules}
 use Rattle.timers.proofs.due.staying.Goals as goal
 
 pub returns : goal.returns

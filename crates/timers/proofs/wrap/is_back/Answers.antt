@@ -1,5 +1,5 @@
 -- The signed number fits, so the machine compares it with zero itself.
-use Rattle.std.proofs.Common.{w32, rules}
+use Rattle.std.proofs.Common.{w32}
 use mir.ValLaws.{to_z-of_z}
 use Rattle.timers.specs.Wrap.{is_back}
 use Rattle.timers.proofs.wrap.is_back.Goals as goal

@@ -1,5 +1,5 @@
 -- Below 2^31 the bits are the number; above, `!` gives back the very bits that came in.
-use Rattle.std.proofs.Common.{◌≡◌, ◌-◌, negsuc, ap, arith, rules, le-ltb, lt-ltb}
+use Rattle.std.proofs.Common.{◌≡◌, ◌-◌, negsuc, ap, arith, le-ltb, lt-ltb}
 use Rattle.timers.specs.Wrap.{signed}
 use Rattle.timers.proofs.wrap.signed.Goals as goal
 

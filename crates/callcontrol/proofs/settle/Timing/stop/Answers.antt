@@ -9,6 +9,6 @@ pub returns : goal.returns
 unfolding stop_timer
 returns c =
     elim c.if-t-k.branch [
-      then-t-k w ↦ rw (w.s-is, w.if-t-k.true)
-    | else-t-k w ↦ rw (w.s-is, w.if-t-k.false, set-get_or c.args.self.stops c.args.k false)
+      | then-t-k w ↦ rw (w.s-is, w.if-t-k.true)
+      | else-t-k w ↦ rw (w.s-is, w.if-t-k.false, set-get_or c.args.self.stops c.args.k false)
     ]

@@ -1,5 +1,5 @@
 -- 1, 31 and 32; then 34, what reading answers, 35, and what the event does.
-use mathlib.Core.Path.{◌≡◌, sym, ap, ◌∙◌}
+use mathlib.Core.Path.{sym, ap, ◌∙◌}
 use Rattle.records.specs.Events.{as_event_read}
 use Rattle.timed.specs.Entries.{step_of}
 use Rattle.timed.proofs.Answering.{accepting, not_ready_lem, is_sound, timer_due, unread, handed_in, stepped}

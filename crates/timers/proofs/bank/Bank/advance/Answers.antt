@@ -1,6 +1,6 @@
 -- 32 by the sign of the difference from the last reading, then 33 by the number due, then the timers due are handed out.
 use Rattle.timers.specs.Bank.{advanced, advanced_to, handed_at, keys_at}
-use Rattle.std.proofs.Common.{length, rules, le-ltb, lt-ltb}
+use Rattle.std.proofs.Common.{length, le-ltb, lt-ltb}
 use Rattle.timers.proofs.bank.Bank.advance.Goals as goal
 
 pub returns-then-is_back : goal.returns-then-is_back

@@ -1,6 +1,6 @@
 -- An entry that the table has not reads 0, as a length out of range does.
 use Rattle.timers.specs.Bank.{length_in}
-use Rattle.std.proofs.Common.{get_or, rules, le-ltb, lt-ltb, le-leb}
+use Rattle.std.proofs.Common.{get_or, le-ltb, lt-ltb, le-leb}
 use borrow.Author.Tests.{lt-leb}
 use lib.ListN.{get_or-eq_default}
 use Rattle.timers.proofs.bank.Bank.length_in.Goals as goal

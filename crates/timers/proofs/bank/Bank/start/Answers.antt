@@ -1,6 +1,6 @@
 -- 30 by the timer's index, then 31 by its length.
 use Rattle.timers.specs.Bank.{started}
-use Rattle.std.proofs.Common.{rules, le-ltb, lt-ltb, eq-eqb, ne_eqb}
+use Rattle.std.proofs.Common.{le-ltb, lt-ltb, eq-eqb, ne_eqb}
 use Rattle.timers.proofs.bank.Bank.start.Goals as goal
 
 pub returns-then-index-ge7 : goal.returns-then-index-ge7

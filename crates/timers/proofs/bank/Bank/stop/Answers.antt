@@ -1,6 +1,6 @@
 -- By the timer's index.
 use Rattle.timers.specs.Bank.{stopped}
-use Rattle.std.proofs.Common.{rules, le-ltb, lt-ltb}
+use Rattle.std.proofs.Common.{le-ltb, lt-ltb}
 use Rattle.timers.proofs.bank.Bank.stop.Goals as goal
 
 pub returns-then-index-ge7 : goal.returns-then-index-ge7
