@@ -65,7 +65,7 @@ ahead_more s behind e =
       fits = rw length-append (omega arith);
     }
 
-lines_more : {s rest text : List ℕ} {c d : Call} (behind : List ℕ) → Lines s c rest d text → Lines (s ++ behind) c (rest ++ behind) d text
+lines_more : {s : List ℕ} {c : Call} {rest : List ℕ} {d : Call} {text : List ℕ} (behind : List ℕ) → Lines s c rest d text → Lines (s ++ behind) c (rest ++ behind) d text
 lines_more behind none = none
 lines_more behind (more {rest} {c} {text} size p h) =
     let w = whole_in rest h in
@@ -75,11 +75,11 @@ pub lines_stay : LinesStay
 lines_stay s rest text behind c d p = lines_more behind p
 
 -- lines one after the other
-lines_then : {s mid rest t u : List ℕ} {c d e : Call} → Lines s c mid d t → Lines mid d rest e u → Lines s c rest e (t ++ u)
+lines_then : {s : List ℕ} {c : Call} {mid : List ℕ} {d : Call} {t rest : List ℕ} {e : Call} {u : List ℕ} → Lines s c mid d t → Lines mid d rest e u → Lines s c rest e (t ++ u)
 lines_then {t = t} p none = rw append-nil p
 lines_then {t = t} p (more size q h) = rw (← append_assoc) (more size (lines_then p q) h)
 
-lines_traced : {s rest t u : List ℕ} {c d : Call} → Lines s c rest d t → Trace rest d u → Trace s c (t ++ u)
+lines_traced : {s : List ℕ} {c : Call} {rest : List ℕ} {d : Call} {t u : List ℕ} → Lines s c rest d t → Trace rest d u → Trace s c (t ++ u)
 lines_traced none r = r
 lines_traced (more size p h) r = rw append_assoc (lines_traced p (whole size h r))
 

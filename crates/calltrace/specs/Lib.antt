@@ -1,3 +1,4 @@
+pub mod Counts
 pub mod Line
 pub mod Block
 pub mod Trace

@@ -1,15 +1,14 @@
 -- After i turns the first i bytes are those from `at` on, and from i on the block is as it was, so each byte is read before it is written
 -- over. The measure is what is left to move.
-use Prim.Native.Nat.{ℕ, suc, ◌+◌, ◌≤◌, ◌<◌, ◌-◌}
-use mathlib.Core.Path.{◌≡◌, refl, sym, ◌∙◌, ap}
-use mathlib.Core.List.{List, [], ◌∷◌, ◌++◌}
+use Prim.Native.Nat.{ℕ, ◌+◌, ◌≤◌, ◌<◌, ◌-◌}
+use mathlib.Core.Path.{◌≡◌, refl, ◌∙◌}
+use mathlib.Core.List.{List}
 use native.Mathlib.Numerals.{add-one}
 use native.Mathlib.Nat.{add_comm}
 use native.Mathlib.Omega.{arith}
 use lib.ListN.{length, take, drop, set, get_or, length-set, length-drop}
 use lib.Seq.{take-suc, take-suc-set, drop-set-lt, drop-drop, get_or-drop, length-take-le, take-add, drop_at}
-use Rattle.calltrace.proofs.block.keep_rest.Statement.{statement}
-use Rattle.calltrace.proofs.block.keep_rest.Tie as tie
+use Rattle.calltrace.proofs.block.keep_rest.Goals as goal
 
 -- the byte that is read is the one that stood there at first
 module _ (l₀ l : List ℕ) (at i : ℕ) (same : drop i l ≡ drop i l₀) where
@@ -27,17 +26,31 @@ module _ (l₀ l : List ℕ) (at i : ℕ) (same : drop i l ≡ drop i l₀) wher
 part : (l : List ℕ) (at n : ℕ) → at ≤ length l → take n (drop at l) ≡ drop at (take (at + n) l)
 part l at n h = rw (take-add at n l, drop_at (take at l) (take n (drop at l)) at (length-take-le at l h))
 
-abbrev invariant_loop : tie.invariant_loop
-invariant_loop bytes₀ at held rest i₀ bytes i =
-    (length bytes ≡ length bytes₀) × (i ≤ rest) × (take i bytes ≡ take i (drop at bytes₀)) × (drop i bytes ≡ drop i bytes₀)
+pub overflow_sub-rest : goal.overflow_sub-rest
+overflow_sub-rest c = omega arith
 
-abbrev decreases_loop : tie.decreases_loop
-decreases_loop bytes₀ at held rest i₀ bytes i = rest - i
+pub loop-i-init : goal.loop-i-init
+loop-i-init c = (refl, omega arith, refl, refl)
 
-loop_again : tie.Need-loop-preserved invariant_loop decreases_loop
-loop_again c =
-    let s = c.before.before.before.args in
-    let l = c.before.before.loop in
+pub overflow_add-bytes : goal.overflow_add-bytes
+overflow_add-bytes c = omega arith
+
+pub bounds-bytes-at : goal.bounds-bytes-at
+bounds-bytes-at c = omega arith
+
+pub bounds-bytes-i : goal.bounds-bytes-i
+bounds-bytes-i c = omega arith
+
+pub overflow_add-i : goal.overflow_add-i
+overflow_add-i c = omega arith
+
+pub loop-i-smaller : goal.loop-i-smaller
+loop-i-smaller c = omega arith
+
+pub loop-i-preserved : goal.loop-i-preserved
+loop-i-preserved c =
+    let s = c.args in
+    let l = c.loop-i in
     let here : l.i < length (drop s.at s.bytes.now) = rw length-drop (omega arith) in (
       simp length-set (omega arith),
       omega arith,
@@ -45,27 +58,13 @@ loop_again c =
       behind s.bytes.now l.bytes s.at l.i l.invariant.3,
     )
 
-returns : tie.Need-returns invariant_loop decreases_loop
+pub shape_of-bytes : goal.shape_of-bytes
+shape_of-bytes c = omega arith
+
+pub returns : goal.returns
 returns c =
-    let s = c.before.before.args in
-    let l = c.before.loop in
+    let s = c.args in
+    let l = c.loop-i in
     let all : l.i ≡ s.held - s.at = omega arith in
     let whole : s.at + (s.held - s.at) ≡ s.held = omega arith in
-    (omega arith, rw all at l.invariant.2 ∙ part s.bytes.now s.at (s.held - s.at) (omega arith) ∙ rw whole)
-
-pub keep_rest_spec : {M : Type 1} → statement M
-keep_rest_spec =
-    tie.close
-    (tie.spec
-    invariant_loop
-    decreases_loop
-    (λ c. omega arith)
-    (λ c. (refl, omega arith, refl, refl))
-    (λ c. omega arith)
-    (λ c. omega arith)
-    (λ c. omega arith)
-    (λ c. omega arith)
-    (λ c. omega arith)
-    loop_again
-    (λ c. omega arith)
-    returns)
+    (record { at_value = omega arith; bytes_after = rw all at l.invariant.2 ∙ part s.bytes.now s.at (s.held - s.at) (omega arith) ∙ rw whole })

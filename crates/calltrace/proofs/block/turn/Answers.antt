@@ -4,7 +4,6 @@ use mathlib.Core.Path.{◌≡◌, refl, ap}
 use mathlib.Core.Bool.{Bool, true, false, cond}
 use mathlib.Core.List.{List}
 use native.Mathlib.Omega.{arith}
-use borrow.Author.Rules.{rules}
 use borrow.Author.Tests.{leb-true}
 use lib.Dec.{leb}
 use lib.ListN.{length, replicate}
@@ -17,8 +16,7 @@ use Rattle.callcontrol.specs.Call.{sound}
 use Rattle.callcontrol.specs.Rows.{row_for}
 use Rattle.callcontrol.specs.Writing.{messages_in, bytes_of}
 use Rattle.callcontrol.specs.Step.{Outcome, other_call, over_transmission, carried, decided, when_read, step_of}
-use Rattle.calltrace.proofs.block.turn.Statement.{statement}
-use Rattle.calltrace.proofs.block.turn.Tie as tie
+use Rattle.calltrace.proofs.block.turn.Goals as goal
 
 -- what holds of both holds of the one that a test picks
 either : (P : Outcome → Type 0) {a b : Outcome} (t : Bool) → P a → P b → P (cond t a b)
@@ -51,29 +49,17 @@ step_count : (c : Call) (bytes buffer : List ℕ) → Counts buffer (step_of c b
 unfolding step_of
 step_count c bytes buffer = either (Counts buffer) (sound c) (read_count (read events bytes) c buffer) zero-le
 
-cast_count : tie.Need-overflow-cast-t15
-cast_count c =
-    let k = c.before.before.before.before in
-    let s = k.before.before.before.before.args in
-    let bound : k.step.result.count ≤ 64 =
-    rw (ap (λ (o : Outcome). o.count) k.step.ensures) (step_count s.call s.event.now (replicate 64 0)) in
+pub overflow_cast-line : goal.overflow_cast-line
+overflow_cast-line c =
+    let s = c.args in
+    let bound : c.step-stepped.result.count ≤ 64 =
+    rw (ap (λ (o : Outcome). o.count) c.step-stepped.ensures) (step_count s.call s.event.now (replicate 64 0)) in
     omega arith
 
-returns : tie.Need-returns
+pub returns : goal.returns
 returns c =
-    let p = c.before.before in
-    let a = p.before.before.before in
-    let k = a.before.before.before in
-    (ap (λ (o : Outcome). o.call) k.step.ensures, (rw (← k.step.ensures, ← a.answer_number_lem.ensures.0) p.put-line.ensures.0, omega arith))
-
-pub turn_spec : {M : Type 1} → statement M
-turn_spec =
-    tie.close
-    (tie.spec
-    (λ c. search rules)
-    (λ c κs. search rules)
-    (λ c κs. search rules)
-    cast_count
-    (λ c κs. search rules)
-    (λ c. search rules)
-    returns)
+    record {
+      call_value = ap (λ (o : Outcome). o.call) c.step-stepped.ensures;
+      stored = rw (← c.step-stepped.ensures, ← c.answer_number.ensures.value) c.put_line-end.ensures.stored;
+      laid_in_bounds = omega arith;
+    }

@@ -1,0 +1,7 @@
+-- How many bytes came by a read.
+use Rattle.std.specs.Prelude.{ℕ, min, Result, Ok, Err}
+
+-- as many as the read says, and no more than there was room for; none where it failed
+abbrev pub count_of : {E : Type 0} → Result ℕ E → ℕ → ℕ
+count_of (Ok n) most = min n most
+count_of (Err e) most = 0
