@@ -10,34 +10,43 @@
 #   CALLCONTROL_MACHINE=aarch64 tests/at_hand.sh tests/size.sh
 set -e
 root=$(cd "$(dirname "$0")/.." && pwd)
-machine=$(uname -m)
-target=${CALLCONTROL_MACHINE:-$machine}
-kit=${RATTLE_HOME:-$(dirname "$(dirname "$(readlink -f "$(command -v rt)")")")}
-own=$kit/on/$machine
+target=${CALLCONTROL_MACHINE:-$(uname -m)}
+kit=$(dirname "$(dirname "$(readlink -f "$(command -v rt)")")")
 made=$root/target/at-hand
 rm -rf "$made"
 
-# A kit that differs in its compiler alone.
-mkdir -p "$made/kit/on/$machine/toolchain/bin"
-as_it_is() { # folder, folder of links to what is in it, what is left out
-    for part in "$1"/*; do
-        [ "$part" = "$1/$3" ] || ln -s "$part" "$2/"
+# A kit that differs in its compiler alone. The command finds the kit that it is in, so that it stands there itself.
+mkdir -p "$made/kit/bin" "$made/kit/toolchain/bin"
+as_it_is() { # folder, folder of links to what is in it, what is left out ..
+    from=$1
+    to=$2
+    shift 2
+    for part in "$from"/*; do
+        case " $* " in
+        *" ${part##*/} "*) ;;
+        *) ln -s "$part" "$to/" ;;
+        esac
     done
 }
-as_it_is "$kit" "$made/kit" on
-as_it_is "$own" "$made/kit/on/$machine" toolchain
-as_it_is "$own/toolchain" "$made/kit/on/$machine/toolchain" bin
-as_it_is "$own/toolchain/bin" "$made/kit/on/$machine/toolchain/bin" clang
-cat >"$made/kit/on/$machine/toolchain/bin/clang" <<CLANG
+as_it_is "$kit" "$made/kit" bin toolchain
+as_it_is "$kit/bin" "$made/kit/bin" rt rtlib.py
+as_it_is "$kit/toolchain" "$made/kit/toolchain" bin
+as_it_is "$kit/toolchain/bin" "$made/kit/toolchain/bin" clang
+cp "$kit/bin/rt" "$kit/bin/rtlib.py" "$made/kit/bin/"
+cat >"$made/kit/toolchain/bin/clang" <<CLANG
 #!/bin/sh
-cp module.bc "$made/"
+[ ! -f module.bc ] || cp module.bc "$made/"
 printf '%s\n' "\$@" >"$made/options"
-exec "$own/toolchain/bin/clang" "\$@"
+exec "$kit/toolchain/bin/clang" "\$@"
 CLANG
-chmod +x "$made/kit/on/$machine/toolchain/bin/clang"
+chmod +x "$made/kit/toolchain/bin/clang"
 for name in $("$root/tests/archives.sh"); do
-    cd "$root"
-    RATTLE_HOME=$made/kit rt staticlib "$name" >"$made/log" 2>&1 || {
+    crate=$name
+    [ "$crate" != host ] || crate=host_c
+    cd "$root/crates/$crate"
+    # An archive that stands already would not be compiled again.
+    rm -f "out/lib$crate.a"
+    "$made/kit/bin/rt" lib >"$made/log" 2>&1 || {
         cat "$made/log" >&2
         exit 1
     }
@@ -52,15 +61,15 @@ for name in $("$root/tests/archives.sh"); do
     done <options >options.here
     # The module names the machine that it was made for.
     echo -Wno-override-module >>options.here
-    xargs -d '\n' "$own/toolchain/bin/clang" <options.here
-    "$own/toolchain/bin/llvm-ar" rcs "lib$name.a" module.o
+    xargs -d '\n' "$kit/toolchain/bin/clang" <options.here
+    "$kit/toolchain/bin/llvm-ar" rcs "lib$name.a" module.o
     rm -f module.o
     # For tests/size.sh, which takes the module apart.
     mv module.bc "$name.bc"
     mv options "$name.shipped"
     mv options.here "$name.here"
 done
-rm -rf kit
+rm -rf kit rattle-kept
 
 cd "$root"
 [ $# -eq 0 ] || CALLCONTROL_LIB_DIR=$made exec "$@"

@@ -146,8 +146,8 @@ done
 # counts to the module of its source; plain C is one file of static functions, compiled at -Os with -fno-inline, and each
 # function stands by its name. Those that read or write a number count to reading and to messages, though a record
 # uses them too.
-kit=${RATTLE_HOME:-$(dirname "$(dirname "$(readlink -f "$(command -v rt)")")")}
-clang=$kit/on/$(uname -m)/toolchain/bin/clang
+kit=$(dirname "$(dirname "$(readlink -f "$(command -v rt)")")")
+clang=$kit/toolchain/bin/clang
 kept=$here/../target/at-hand
 brought() { # program, column: column, name and bytes of each function that a step brings
     ${cross}nm -S -t d "$work/none" | awk '{ print $NF }' >"$work/none.names"

@@ -1,31 +1,23 @@
 #!/usr/bin/env python3
 """Brings the repository's own definitions and lemmas to Rattle's spelling: words in snake case, types and modules in camel case.
 
-Use, at the top of the repository:  tools/respell.py            rewrites crates/ by tools/respell.tsv
-                                    tools/respell.py --table    writes tools/respell.tsv from crates/ as they stand after port.py
+Use, at the top of a repository that port.py has turned:  tools/respell.py
 
-A row of the table is: old, a tab, new. A name in camel case that begins with a small letter goes to snake case. A dash becomes an underscore, but for
-a lemma about functions, whose name joins theirs by a dash, as length-bytes. A lemma that would share its name with a definition in one file ends in _lem.
-Functions of src/, exported C names, strings and comments keep theirs; in a .rt file clauses, ghost items and imports alone are read.
+It rewrites crates/ by tools/respell.tsv, a row for each name: old, a tab, new. A name in camel case that begins with a small letter goes to snake
+case. A dash becomes an underscore, but in a lemma whose name joins two by it, as length-bytes_of or bytes-append. A lemma that would have shared
+its name with a definition in one file ends in _lem. Functions of src/, exported C names, strings and comments keep theirs; in a .rt file clauses,
+ghost items and imports alone are read.
 """
-import collections
 import glob
 import os
 import re
-import sys
 
 ROOT = os.path.dirname(os.path.dirname(os.path.abspath(__file__)))
 TABLE = os.path.join(ROOT, 'tools', 'respell.tsv')
 WORD = re.compile(r'[^\s(){}.;,@"«»]+')
 QUIET = re.compile(r'"(?:[^"\\\n]|\\.)*"|(?<![^\s(){}.;,@"«»])--[^\n]*|\{-.*?-\}', re.S)
 KEPT = re.compile(QUIET.pattern + r'|^(?:pub )?use [^\s{]+', re.S | re.M)
-NAME = re.compile(r"[A-Za-z][A-Za-z0-9_'?₀-₉-]*$")
-DECLARED = re.compile(r'^\s*(?:(?:pub|abbrev|unfoldable|let|module|data|record) )*((?:[^\s(){}.;,@":=]+ )*[^\s(){}.;,@":=]+) :(?=\s)', re.M)
-LET = re.compile(r'\blet ([^\s(){}.;,@":=]+) (?=[:=] )')
-FIELD = re.compile(r'[{;] ?([^\s(){}.;,@":=]+) [:=](?=\s)')
-DEFINED = re.compile(r'^\s*(?:(?:pub|abbrev|unfoldable) )*([^\s(){}.;,@":=]+) (?:[^\n:=]* )?=(?=\s)', re.M)
 IMPORT = re.compile(r'^(?:pub )?use ([^\s{]+)\.\{([^}]*)\}', re.M)
-LIBRARY_FUNCTIONS = {'length', 'append', 'take', 'drop', 'set', 'sets', 'map', 'get_or', 'filter', 'sum', 'replicate', 'cond', 'eqb', 'leb', 'ltb'}
 
 
 def read(path):
@@ -38,78 +30,6 @@ def files():
         for path in sorted(glob.glob(os.path.join(ROOT, 'crates', '*', '**', '*.' + ending), recursive=True)):
             if '/out/' not in path:
                 yield path
-
-
-def snake(name):
-    name = re.sub(r'([a-z0-9])([A-Z])', r'\1_\2', name)
-    return re.sub(r'([A-Z]+)([A-Z][a-z])', r'\1_\2', name).lower()
-
-
-def make_table():
-    used, declared, library, functions, where = collections.Counter(), set(), set(), set(LIBRARY_FUNCTIONS), collections.defaultdict(set)
-    texts = {}
-    for path in files():
-        if not path.endswith('.antt'):
-            continue
-        text = QUIET.sub(' ', read(path))
-        texts[path] = text
-        for word in WORD.findall(text):
-            used[word] += 1
-            where[word].add(path)
-        if path.endswith('/Proof.antt'):
-            for found in re.findall(r'^(?:pub )?(\S+-spec) :', text, re.M):
-                declared.add(found)
-            text = text.split('tie.spec')[0]
-        for found in DECLARED.findall(text):
-            declared.update(found.split())
-        for pattern in (LET, FIELD):
-            declared.update(pattern.findall(text))
-        declared.update(DEFINED.findall(text))
-        for module, names in IMPORT.findall(text):
-            if not re.match(r'Rattle\.(' + '|'.join(sorted(os.listdir(os.path.join(ROOT, 'crates')))) + r')\b', module):
-                library.update(item.split(' as ')[-1].strip() for item in names.split(','))
-        if '/specs/' in path:
-            for found in re.findall(r'^\s*(?:(?:pub|abbrev|unfoldable) )+([^\s(){}.;,@":=]+) :(?=\s)', text, re.M):
-                functions.add(snake(found))
-    rows = {}
-    for word in used:
-        if word in library or not NAME.match(word):
-            continue
-        if re.match(r'[a-z]', word) and re.search(r'[A-Z]', word) and '-' not in word:
-            rows[word] = snake(word)
-        elif '-' in word and word in declared and not word.startswith('-'):
-            head = word[:-5] if word.endswith('-spec') else word
-            parts = [snake(part) for part in head.split('-')]
-            if head == word and re.search(r'[a-z]', word) and all(part in functions for part in parts):
-                new = '-'.join(parts)
-            elif re.search(r'[a-z]', word):
-                new = '_'.join(parts)
-            else:
-                new = word.replace('-', '_')
-            if head != word:
-                new += '_spec'
-            if new != word:
-                rows[word] = new
-    # two names of one file that would fall together: the lemma, which had the dash, ends in _lem
-    for path, text in texts.items():
-        bare = re.sub(r'(?m)^(?:pub )?use [^\s{]+', ' ', text)
-        by_new = collections.defaultdict(set)
-        for word in set(WORD.findall(bare)):
-            by_new[rows.get(word, word)].add(word)
-        for new, olds in by_new.items():
-            if len(olds) > 1:
-                dashed = [old for old in olds if '-' in old]
-                plain = [old for old in olds if old == new]
-                if len(dashed) == 1:
-                    rows[dashed[0]] = new + '_lem'
-                elif not dashed and len(olds) == 2 and plain and not path.endswith('/Proof.antt'):
-                    rows[plain[0]] = new + '_lem'
-                elif not path.endswith('/Proof.antt'):
-                    print(f'look: {path}: {sorted(olds)} -> {new}')
-    with open(TABLE, 'w', encoding='utf-8') as file:
-        for old in sorted(rows):
-            file.write(f'{old}\t{rows[old]}\n')
-    print(f'{len(rows)} rows')
 
 
 def turned(code, rows):
@@ -156,9 +76,6 @@ def turn_rt(text, rows):
 
 
 def main():
-    if sys.argv[1:] == ['--table']:
-        make_table()
-        return
     rows = dict(line.rstrip('\n').split('\t') for line in open(TABLE, encoding='utf-8'))
     changed = 0
     for path in files():

@@ -128,7 +128,7 @@ fn a_long_history_goes_through() {
     assert!(printed == expected, "2000 times colliding_release is printed otherwise");
 }
 
-/// The input that is kept with the program, which `rt check` runs it on, ends with a cut record.
+/// The input that is kept with the program, which `rt ci` runs it on, ends with a cut record.
 #[test]
 fn the_stored_input() {
     let stored = |name| fs::read(root().join("crates/calltrace").join(name)).expect("it is stored");

@@ -95,16 +95,20 @@ fn archives() -> PathBuf {
 fn is_long(command: &str, at: &str) -> bool {
     let words: Vec<&str> = command.split_whitespace().collect();
     match words[..] {
-        ["rt", "check" | "staticlib", ref crates @ ..] => {
+        ["rt", "ci", ref crates @ ..] => {
             let known = fs::read_to_string(root().join("crates.txt")).expect("the list of crates");
             assert!(!crates.is_empty(), "{at}: {command}");
             for name in crates {
-                let listed = known.lines().any(|line| line.split(':').next() == Some(name));
+                let listed = known.lines().any(|line| line.split([':', ' ']).next() == Some(name));
                 assert!(listed, "{at}: no crate {name}");
                 assert!(root().join("crates").join(name).is_dir(), "{at}: no crate {name}");
-                if words[1] == "staticlib" {
-                    assert!(archives().join(format!("lib{name}.a")).is_file(), "{at}: {name}");
-                }
+            }
+            true
+        }
+        ["tests/archives.sh", "build", ref names @ ..] => {
+            assert!(!names.is_empty(), "{at}: {command}");
+            for name in names {
+                assert!(archives().join(format!("lib{name}.a")).is_file(), "{at}: {name}");
             }
             true
         }

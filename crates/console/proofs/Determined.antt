@@ -1,5 +1,5 @@
 -- The promises leave no choice: two results that a function's own `ensures` allows are equal, and so are the buffers that it leaves. `Learnt` is that `ensures` as a
--- caller learns it, of the arguments, the result, and the parameters when it returns. What works on a lent table is proved by a walk and has none: there both sides stand as
+-- caller learns it, of the arguments, the result, and the parameters when it returns. Of what works on a lent table both sides stand as
 -- the `ensures` has them.
 use Prim.Native.Nat.{ℕ, ◌-◌, ◌<◌}
 use mathlib.Core.Path.{◌≡◌, refl, sym, ◌∙◌, ap}

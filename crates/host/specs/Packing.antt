@@ -34,7 +34,7 @@ state_is (suc (suc (suc zero))) = State.CallActive
 state_is (suc (suc (suc (suc zero)))) = State.Wait
 state_is (suc (suc (suc (suc (suc n))))) = State.CallDisconnect
 
--- only 2 is Restoring; above it, which no record has since isRecord refuses it, is Up
+-- only 2 is Restoring; above it, which no record has since is_record refuses it, is Up
 abbrev pub path_is : ℕ → Path
 path_is zero = Path.Up
 path_is (suc zero) = Path.Broken

@@ -11,7 +11,7 @@ flag b = cond b 1 0
 unfoldable pub packed : Call → List ℕ
 packed c = state_number c.state ∷ c.target ∷ c.lowest ∷ c.limit ∷ c.used ∷ flag c.dt303 ∷ flag c.dt311 ∷ []
 
--- above 2, which no record has since isRecord refuses it, is Active
+-- above 2, which no record has since is_record refuses it, is Active
 abbrev pub state_is : ℕ → State
 state_is zero = State.Idle
 state_is (suc zero) = State.PresenceCheck

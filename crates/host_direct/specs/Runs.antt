@@ -1,11 +1,11 @@
 -- A run as a set makes it: callcontrol_direct_fresh once, then callcontrol_direct_step again and again over the same 7 bytes. It is the run of
 -- the step over the records that the bytes hold, so that what is proved of every run (crate direct) is said of what a set calls.
-use Rattle.std.specs.Prelude.{ℕ, ◌≡◌, List, [], ◌∷◌, length, get_or, take}
+use Rattle.std.specs.Prelude.{ℕ, ◌≡◌, List, [], ◌∷◌, length, get_or, take, ◌%◌}
 use Rattle.direct.specs.Call.{fresh_call}
 use Rattle.direct.specs.Runs.{Turn, outcome, run, written_by, log_in, runs_by}
 use Rattle.direct.specs.Demands.{Reads}
 use Rattle.host_direct.specs.Packing.{packed, flag}
-use Rattle.host_direct.specs.Entries.{count_of, stepped, freshened, host_step}
+use Rattle.host_direct.specs.Entries.{PLACE, stepped, freshened, host_step}
 use Rattle.host_direct.specs.Laws.{ReadsOff}
 
 -- the record's bytes after some turns
@@ -47,5 +47,5 @@ abbrev pub TurnReadsBack : Type 0
 TurnReadsBack =
     (s : List ℕ) (ts : List Turn) (t : Turn) →
     length s ≡ 7 →
-    Reads (take (count_of (host_step (after s ts) t.event t.buffer).result) (host_step (after s ts) t.event t.buffer).out)
+    Reads (take ((host_step (after s ts) t.event t.buffer).result % PLACE) (host_step (after s ts) t.event t.buffer).out)
     (written_by (run fresh_call ts) t)
