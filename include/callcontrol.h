@@ -154,7 +154,38 @@ enum callcontrol_path {
     CALLCONTROL_PATH_RESTORING = 2
 };
 
-/* ---- Values of the letters ----------------------------------------------------------------- */
+/* ---- Letters of a body, and their values --------------------------------------------------- */
+
+/*
+ * A record is its length u16 (all its bytes), its kind u16 and its body, little-endian. A body is
+ * its letters' fields in the order given with its kind, nothing between them:
+ *
+ *   letter  width  range       meaning
+ *   i       u16    1..16383    the call's identifier; 0 is allowed in D-DISCONNECT, D-RELEASE,
+ *                              U-DISCONNECT and U-RELEASE alone
+ *   a       u32    0..16777215 the other party's address; 0 is unknown, and refused in SETUP request
+ *                              and U-SETUP
+ *   d       u8     0..1        the mode: enum callcontrol_mode
+ *   q       u8     0..1        1: permission to transmit is asked for with the set-up or restoration
+ *   g       u8     0..3        what the network grants: enum callcontrol_grant
+ *   o       u8     0..15       the code of T310's length, 0 no limit; in D-INFO and D-CALL RESTORE
+ *                              also 16, none given
+ *   r       u8     0..1        1: T310 begins anew, by o or, where that is 16, by the held code;
+ *                              0: it runs on, and o is not looked at
+ *   k       u8     0..1        TX request: 1 demand, 0 cease; D-TX CONTINUE: 1 as before the pause,
+ *                              0 off
+ *   s       u8     1..4        slots per frame; the last byte of a body, which may lack it
+ *   n       u16    seven       a timer: enum callcontrol_timer
+ *   c       u8     1..4        why a call ends: enum callcontrol_cause
+ *   p       u8     1..4        the U-plane: enum callcontrol_plane
+ *   x       u8     0..8        enum callcontrol_tx_indication
+ *   y       u8     0..7        a place of a console
+ *   u       u16    any         the number of a channel question
+ *   v       u8     0..2        the answer to it: enum callcontrol_verdict
+ *
+ * Direct mode has letters of its own, below. callcontrol_records.h builds events and reads messages
+ * by these fields.
+ */
 
 enum callcontrol_mode { /* d */
     CALLCONTROL_SIMPLEX = 0,

@@ -8,7 +8,7 @@
  *     gcc -std=c11 -Wall -Wextra -Werror -Iinclude examples/c/console.c \
  *         target/staticlib/libhost.a target/staticlib/libhost_console.a -o target/console
  */
-#include "callcontrol.h"
+#include "callcontrol_records.h"
 
 #include <stdio.h>
 #include <stdlib.h>
@@ -48,10 +48,8 @@ static const char *const states[] = {
 
 static const char *const paths[] = {"up", "broken", "restoring"};
 
-static unsigned int u16_at(const uint8_t *bytes)
-{
-    return (unsigned int)bytes[0] | (unsigned int)bytes[1] << 8;
-}
+/* The event that is handed in next. */
+static uint8_t event[CALLCONTROL_EVENT_MAX];
 
 static const char *name_of(unsigned int kind)
 {
@@ -68,18 +66,19 @@ static const char *name_of(unsigned int kind)
  */
 static void print_messages(const uint8_t *out, size_t count)
 {
-    for (size_t at = 0; at < count; at += u16_at(out + at)) {
+    for (size_t at = 0; at < count; at += callcontrol_length_of(out + at)) {
         const uint8_t *message = out + at;
-        if (callcontrol_answer_of(callcontrol_check_message(message, u16_at(message))) != CALLCONTROL_TAKEN) {
+        uint32_t read = callcontrol_check_message(message, callcontrol_length_of(message));
+        if (callcontrol_answer_of(read) != CALLCONTROL_TAKEN) {
             fprintf(stderr, "the library wrote something that is no message\n");
             exit(EXIT_FAILURE);
         }
-        if (u16_at(message + 2) == CALLCONTROL_PLACE) {
-            printf("    for place %u\n", (unsigned int)message[CALLCONTROL_HEAD_SIZE]);
+        if (callcontrol_kind_of(message) == CALLCONTROL_PLACE) {
+            printf("    for place %u\n", (unsigned int)callcontrol_place_number(message));
             continue;
         }
-        printf("      %s", name_of(u16_at(message + 2)));
-        for (size_t byte = CALLCONTROL_HEAD_SIZE; byte < u16_at(message); byte++)
+        printf("      %s", name_of(callcontrol_kind_of(message)));
+        for (size_t byte = CALLCONTROL_HEAD_SIZE; byte < callcontrol_length_of(message); byte++)
             printf(" %02X", (unsigned int)message[byte]);
         printf("\n");
     }
@@ -92,13 +91,13 @@ static void print_table(const uint8_t *table)
         const uint8_t *call = table + place * CALLCONTROL_RECORD_SIZE;
         if (call[CALLCONTROL_AT_STATE] != CALLCONTROL_IDLE)
             printf("  place %u: %s, identifier %u, path %s, plane %u\n", place,
-                   states[call[CALLCONTROL_AT_STATE]], u16_at(call + CALLCONTROL_AT_IDENTIFIER),
+                   states[call[CALLCONTROL_AT_STATE]], (unsigned int)callcontrol_u16(call + CALLCONTROL_AT_IDENTIFIER),
                    paths[call[CALLCONTROL_AT_PATH]], (unsigned int)call[CALLCONTROL_AT_PLANE]);
     }
 }
 
 /* Hands one event to the console and shows what comes of it. */
-static void play(uint8_t *table, const char *what, uint8_t place, const uint8_t *event, size_t event_len)
+static void play(uint8_t *table, const char *what, uint8_t place, size_t event_len)
 {
     uint8_t out[CALLCONTROL_CONSOLE_MAX];
     uint32_t result = callcontrol_console_step(table, CALLCONTROL_TABLE_SIZE, place,
@@ -109,8 +108,6 @@ static void play(uint8_t *table, const char *what, uint8_t place, const uint8_t 
     print_table(table);
 }
 
-#define BYTES(...) ((const uint8_t[]){__VA_ARGS__}), sizeof((const uint8_t[]){__VA_ARGS__})
-
 int main(void)
 {
     uint8_t table[CALLCONTROL_TABLE_SIZE];
@@ -118,31 +115,37 @@ int main(void)
         return EXIT_FAILURE;
 
     /* The first call goes out; until it has an identifier no second one can. */
-    play(table, "SETUP request to 7", 0, BYTES(10, 0, 0x01, 0x01, 7, 0, 0, 0, 0, 1));
-    play(table, "SETUP request to 8", 0, BYTES(10, 0, 0x01, 0x01, 8, 0, 0, 0, 0, 0));
-    play(table, "REPORT sent at place 0", 0, BYTES(4, 0, 0x01, 0x03));
-    play(table, "D-CONNECT 21, granted", 0, BYTES(9, 0, 0x03, 0x02, 21, 0, 0, 0, 3));
+    play(table, "SETUP request to 7", 0, callcontrol_event_setup_request(event, 7, CALLCONTROL_SIMPLEX, 1));
+    play(table, "SETUP request to 8", 0, callcontrol_event_setup_request(event, 8, CALLCONTROL_SIMPLEX, 0));
+    play(table, "REPORT sent at place 0", 0, callcontrol_event_report_sent(event));
+    play(table, "D-CONNECT 21, granted", 0,
+         callcontrol_event_d_connect(event, 21, CALLCONTROL_GRANTED, CALLCONTROL_SIMPLEX, 3));
 
     /* The second call comes in. Its identifier is then held. */
-    play(table, "D-SETUP 30 from 9", 0, BYTES(11, 0, 0x05, 0x02, 30, 0, 9, 0, 0, 0, 0));
-    play(table, "D-SETUP 30 from 9 again", 0, BYTES(11, 0, 0x05, 0x02, 30, 0, 9, 0, 0, 0, 0));
-    play(table, "SETUP response at place 1", 1, BYTES(4, 0, 0x02, 0x01));
+    play(table, "D-SETUP 30 from 9", 0,
+         callcontrol_event_d_setup(event, 30, 9, CALLCONTROL_SIMPLEX));
+    play(table, "D-SETUP 30 from 9 again", 0,
+         callcontrol_event_d_setup(event, 30, 9, CALLCONTROL_SIMPLEX));
+    play(table, "SETUP response at place 1", 1, callcontrol_event_setup_response(event));
     play(table, "D-CONNECT ACKNOWLEDGE 30, granted to another", 0,
-         BYTES(8, 0, 0x04, 0x02, 30, 0, 3, 2));
+         callcontrol_event_d_connect_acknowledge(event, 30, CALLCONTROL_GRANTED_TO_ANOTHER, 2));
 
     /* The path is lost: both calls are cut. While they are restored a third goes out. */
-    play(table, "BREAK", 0, BYTES(4, 0, 0x03, 0x03));
-    play(table, "RESUME", 0, BYTES(4, 0, 0x04, 0x03));
-    play(table, "SETUP request to 8", 0, BYTES(10, 0, 0x01, 0x01, 8, 0, 0, 0, 0, 0));
-    play(table, "D-CALL RESTORE 21, granted", 0, BYTES(9, 0, 0x0C, 0x02, 21, 0, 0, 0, 16));
-    play(table, "D-CALL PROCEEDING 40", 0, BYTES(6, 0, 0x01, 0x02, 40, 0));
-    play(table, "D-CALL RESTORE 30, granted to another", 0, BYTES(9, 0, 0x0C, 0x02, 30, 0, 3, 0, 16));
-    play(table, "D-CONNECT 40, queued", 0, BYTES(9, 0, 0x03, 0x02, 40, 0, 2, 0, 3));
+    play(table, "BREAK", 0, callcontrol_event_break(event));
+    play(table, "RESUME", 0, callcontrol_event_resume(event));
+    play(table, "SETUP request to 8", 0, callcontrol_event_setup_request(event, 8, CALLCONTROL_SIMPLEX, 0));
+    play(table, "D-CALL RESTORE 21, granted", 0,
+         callcontrol_event_d_call_restore(event, 21, CALLCONTROL_GRANTED, 0, CALLCONTROL_T310_CODE_ABSENT));
+    play(table, "D-CALL PROCEEDING 40", 0, callcontrol_event_d_call_proceeding(event, 40));
+    play(table, "D-CALL RESTORE 30, granted to another", 0,
+         callcontrol_event_d_call_restore(event, 30, CALLCONTROL_GRANTED_TO_ANOTHER, 0, CALLCONTROL_T310_CODE_ABSENT));
+    play(table, "D-CONNECT 40, queued", 0,
+         callcontrol_event_d_connect(event, 40, CALLCONTROL_QUEUED, CALLCONTROL_SIMPLEX, 3));
 
     /* The user at place 1 hangs up; there is no place 9; nobody holds 99. */
-    play(table, "RELEASE request at place 1", 1, BYTES(4, 0, 0x03, 0x01));
-    play(table, "RELEASE request at place 9", 9, BYTES(4, 0, 0x03, 0x01));
-    play(table, "D-RELEASE 30", 0, BYTES(6, 0, 0x0E, 0x02, 30, 0));
-    play(table, "D-RELEASE 99", 0, BYTES(6, 0, 0x0E, 0x02, 99, 0));
+    play(table, "RELEASE request at place 1", 1, callcontrol_event_release_request(event));
+    play(table, "RELEASE request at place 9", 9, callcontrol_event_release_request(event));
+    play(table, "D-RELEASE 30", 0, callcontrol_event_d_release(event, 30));
+    play(table, "D-RELEASE 99", 0, callcontrol_event_d_release(event, 99));
     return EXIT_SUCCESS;
 }

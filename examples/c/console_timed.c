@@ -7,13 +7,16 @@
  *     gcc -std=c11 -Wall -Wextra -Werror -Iinclude examples/c/console_timed.c \
  *         target/staticlib/libhost.a target/staticlib/libhost_console.a -o target/console_timed
  */
-#include "callcontrol.h"
+#include "callcontrol_records.h"
 
 #include <stdio.h>
 #include <stdlib.h>
 
 static uint8_t table[CALLCONTROL_TABLE_SIZE];
 static uint8_t banks[CALLCONTROL_PLACES][CALLCONTROL_BANK_SIZE];
+
+/* The event that is handed in next: a function of callcontrol_records.h builds it. */
+static uint8_t event[CALLCONTROL_EVENT_MAX];
 
 /* What the counter shows: eight seconds and a little before it wraps. */
 static uint32_t counter = 0xFFFFE000u;
@@ -55,11 +58,6 @@ static const char *name_of(unsigned int number)
     return "a message that this host does not know";
 }
 
-static unsigned int two_bytes(const uint8_t *bytes)
-{
-    return bytes[0] | (unsigned int)bytes[1] << 8;
-}
-
 static void must_be_taken(uint32_t result)
 {
     if (callcontrol_answer_of(result) != CALLCONTROL_TAKEN) {
@@ -71,36 +69,40 @@ static void must_be_taken(uint32_t result)
 /* Carries out one message of a place: its timers are in the place's own bank. */
 static void carry_out(unsigned int place, const uint8_t *message)
 {
-    unsigned int kind = two_bytes(message + 2);
-    const uint8_t *body = message + CALLCONTROL_HEAD_SIZE;
     uint8_t *bank = banks[place];
 
-    printf("    place %u: %s", place, name_of(kind));
-    if (kind == CALLCONTROL_STOP) {
-        printf(" T%u", two_bytes(body));
-        must_be_taken(callcontrol_bank_stop(bank, CALLCONTROL_BANK_SIZE, (uint16_t)two_bytes(body)));
-    } else if (kind == CALLCONTROL_START) {
-        printf(" T%u", two_bytes(body));
+    printf("    place %u: %s", place, name_of(callcontrol_kind_of(message)));
+    switch (callcontrol_kind_of(message)) {
+    case CALLCONTROL_STOP:
+        printf(" T%u", (unsigned int)callcontrol_stop_timer(message));
+        must_be_taken(callcontrol_bank_stop(bank, CALLCONTROL_BANK_SIZE,
+                                            callcontrol_stop_timer(message)));
+        break;
+    case CALLCONTROL_START:
+        printf(" T%u", (unsigned int)callcontrol_start_timer(message));
         must_be_taken(callcontrol_bank_start(bank, CALLCONTROL_BANK_SIZE, lengths, CALLCONTROL_LENGTHS,
-                                             (uint16_t)two_bytes(body), body[2]));
-    } else if (kind == CALLCONTROL_CONFIGURE) {
-        printf(" %u", (unsigned int)body[0]);
+                                             callcontrol_start_timer(message),
+                                             callcontrol_start_code(message)));
+        break;
+    case CALLCONTROL_CONFIGURE:
+        printf(" %u", (unsigned int)callcontrol_configure_plane(message));
+        break;
     }
     printf("\n");
 }
 
 /* One step: a record CALLCONTROL_PLACE says whose messages follow, up to the next such record. */
-static void take(const char *name, uint8_t place, const uint8_t *event, size_t event_len)
+static void take(const char *name, uint8_t place, const uint8_t *record, size_t len)
 {
     uint8_t out[CALLCONTROL_CONSOLE_MAX];
-    uint32_t result = callcontrol_console_step(table, sizeof table, place, event, event_len,
+    uint32_t result = callcontrol_console_step(table, sizeof table, place, record, len,
                                                out, sizeof out);
     unsigned int whose = 0;
 
     printf("%08lX %s: answer %u\n", (unsigned long)counter, name, callcontrol_answer_of(result));
-    for (size_t at = 0; at < callcontrol_count_of(result); at += two_bytes(out + at)) {
-        if (two_bytes(out + at + 2) == CALLCONTROL_PLACE)
-            whose = out[at + CALLCONTROL_HEAD_SIZE];
+    for (size_t at = 0; at < callcontrol_count_of(result); at += callcontrol_length_of(out + at)) {
+        if (callcontrol_kind_of(out + at) == CALLCONTROL_PLACE)
+            whose = callcontrol_place_number(out + at);
         else
             carry_out(whose, out + at);
     }
@@ -116,18 +118,17 @@ static void read_counter(void)
 
         must_be_taken(result);
         for (size_t at = 0; at < callcontrol_count_of(result); at++) {
-            const uint8_t expiry[] = {6, 0, 0x01, 0x04, (uint8_t)(due[at] & 0xFF),
-                                      (uint8_t)(due[at] >> 8)};
+            uint8_t expiry[CALLCONTROL_EVENT_MAX];
             char name[40];
             snprintf(name, sizeof name, "expiry of T%u at place %u", (unsigned int)due[at],
                      (unsigned int)place);
-            take(name, place, expiry, sizeof expiry);
+            take(name, place, expiry, callcontrol_event_expiry(expiry, due[at]));
         }
     }
 }
 
 /* An event of a user, the network or the lower layers: readings go right before it. */
-static void play(const char *name, uint8_t place, const uint8_t *event, size_t event_len)
+static void play(const char *name, uint8_t place, size_t event_len)
 {
     read_counter();
     take(name, place, event, event_len);
@@ -143,9 +144,6 @@ static void wait_for(uint32_t milliseconds)
     counter += milliseconds; /* an event comes between two of these readings */
 }
 
-#define BYTES(...) ((const uint8_t[]){__VA_ARGS__})
-#define PLAY(name, place, ...) play(name, place, BYTES(__VA_ARGS__), sizeof BYTES(__VA_ARGS__))
-
 int main(void)
 {
     if (callcontrol_console_fresh(table, sizeof table) != CALLCONTROL_TABLE_SIZE)
@@ -155,29 +153,31 @@ int main(void)
             return EXIT_FAILURE;
 
     /* One call goes out, its user transmits; another comes in. */
-    PLAY("SETUP request to 7", 0, 10, 0, 0x01, 0x01, 7, 0, 0, 0, CALLCONTROL_SIMPLEX, 1);
+    play("SETUP request to 7", 0, callcontrol_event_setup_request(event, 7, CALLCONTROL_SIMPLEX, 1));
     wait_for(250);
-    PLAY("REPORT sent at place 0", 0, 4, 0, 0x01, 0x03);
+    play("REPORT sent at place 0", 0, callcontrol_event_report_sent(event));
     wait_for(1010);
-    PLAY("D-CONNECT 21, granted", 0, 9, 0, 0x03, 0x02, 21, 0, CALLCONTROL_GRANTED, CALLCONTROL_SIMPLEX, 3);
+    play("D-CONNECT 21, granted", 0,
+         callcontrol_event_d_connect(event, 21, CALLCONTROL_GRANTED, CALLCONTROL_SIMPLEX, 3));
     wait_for(700);
-    PLAY("D-SETUP 30 from 9", 0, 11, 0, 0x05, 0x02, 30, 0, 9, 0, 0, 0, CALLCONTROL_SIMPLEX);
+    play("D-SETUP 30 from 9", 0, callcontrol_event_d_setup(event, 30, 9, CALLCONTROL_SIMPLEX));
     wait_for(1300);
-    PLAY("SETUP response at place 1", 1, 4, 0, 0x02, 0x01);
+    play("SETUP response at place 1", 1, callcontrol_event_setup_response(event));
     wait_for(120);
-    PLAY("D-CONNECT ACKNOWLEDGE 30, granted to another", 0, 8, 0, 0x04, 0x02, 30, 0,
-         CALLCONTROL_GRANTED_TO_ANOTHER, 3);
+    play("D-CONNECT ACKNOWLEDGE 30, granted to another", 0,
+         callcontrol_event_d_connect_acknowledge(event, 30, CALLCONTROL_GRANTED_TO_ANOTHER, 3));
 
     /* The path is lost: both are cut, and T306 runs for both when it is found again. */
     wait_for(2000);
-    PLAY("BREAK", 0, 4, 0, 0x03, 0x03);
+    play("BREAK", 0, callcontrol_event_break(event));
     wait_for(1830);
-    PLAY("RESUME", 0, 4, 0, 0x04, 0x03);
+    play("RESUME", 0, callcontrol_event_resume(event));
 
     /* One is restored in time, and its user speaks on, too long. The other is released. */
     wait_for(3000);
-    PLAY("D-CALL RESTORE 21, granted", 0, 9, 0, 0x0C, 0x02, 21, 0, CALLCONTROL_GRANTED, 0,
-         CALLCONTROL_T310_CODE_ABSENT);
+    play("D-CALL RESTORE 21, granted", 0,
+         callcontrol_event_d_call_restore(event, 21, CALLCONTROL_GRANTED, 0,
+                                          CALLCONTROL_T310_CODE_ABSENT));
     wait_for(20000);
     return EXIT_SUCCESS;
 }

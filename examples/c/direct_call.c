@@ -8,20 +8,18 @@
  *     gcc -std=c11 -Wall -Wextra -Werror -Iinclude examples/c/direct_call.c \
  *         target/staticlib/libhost_direct.a -o target/direct_call
  */
-#include "callcontrol.h"
+#include "callcontrol_records.h"
 
 #include <stdbool.h>
 #include <stdio.h>
 
 static uint8_t record[CALLCONTROL_DIRECT_RECORD_SIZE];
 
+/* The event that is handed in next. */
+static uint8_t event[CALLCONTROL_DIRECT_EVENT_MAX];
+
 /* The timers that run; a set starts and stops them where this host keeps a flag. */
 static bool dt303_runs, dt311_runs;
-
-static unsigned int two_bytes(const uint8_t *at)
-{
-    return (unsigned int)at[0] | (unsigned int)at[1] << 8;
-}
 
 static void run(unsigned int timer, bool runs)
 {
@@ -32,29 +30,28 @@ static void run(unsigned int timer, bool runs)
 /* What a message orders; a set would do it. */
 static void carry_out(const uint8_t *message)
 {
-    const uint8_t *body = message + CALLCONTROL_HEAD_SIZE;
-
-    switch (two_bytes(message + 2)) {
+    switch (callcontrol_kind_of(message)) {
     case CALLCONTROL_DM_SETUP_PRES:
-        printf("    DM-SETUP PRES target %u lowest %u\n", body[0], body[1]);
+        printf("    DM-SETUP PRES target %u lowest %u\n", callcontrol_dm_setup_pres_target(message),
+               callcontrol_dm_setup_pres_lowest(message));
         break;
     case CALLCONTROL_DM_CONNECT_ACK:
-        printf("    DM-CONNECT ACK %u\n", body[0]);
+        printf("    DM-CONNECT ACK %u\n", callcontrol_dm_connect_ack_grade(message));
         break;
     case CALLCONTROL_DM_RELEASE:
         puts("    DM-RELEASE");
         break;
     case CALLCONTROL_DIRECT_STOP:
-        run(two_bytes(body), false);
+        run(callcontrol_direct_stop_timer(message), false);
         break;
     case CALLCONTROL_DIRECT_START:
-        run(two_bytes(body), true);
+        run(callcontrol_direct_start_timer(message), true);
         break;
     case CALLCONTROL_DIRECT_CONFIGURE:
-        printf("    CONFIGURE %u\n", body[0]);
+        printf("    CONFIGURE %u\n", callcontrol_direct_configure_grade(message));
         break;
     case CALLCONTROL_DIRECT_SETUP_CONFIRM:
-        printf("    to the user: SETUP confirm %u\n", body[0]);
+        printf("    to the user: SETUP confirm %u\n", callcontrol_direct_setup_confirm_grade(message));
         break;
     case CALLCONTROL_DIRECT_RELEASE_INDICATION:
         puts("    to the user: RELEASE indication");
@@ -62,7 +59,7 @@ static void carry_out(const uint8_t *message)
     }
 }
 
-static void take(const char *name, const uint8_t *event, size_t event_len)
+static void take(const char *name, size_t event_len)
 {
     static const char *const states[] = {"IDLE", "PRESENCE CHECK", "ACTIVE"};
     uint8_t out[CALLCONTROL_DIRECT_STEP_MAX];
@@ -70,34 +67,30 @@ static void take(const char *name, const uint8_t *event, size_t event_len)
 
     printf("%s: answer %u, %s\n", name, callcontrol_answer_of(result),
            states[record[CALLCONTROL_DIRECT_AT_STATE]]);
-    for (size_t at = 0; at < callcontrol_count_of(result); at += two_bytes(out + at))
+    for (size_t at = 0; at < callcontrol_count_of(result); at += callcontrol_length_of(out + at))
         carry_out(out + at);
 }
 
 static void ask(uint8_t target, uint8_t lowest, uint8_t attempts)
 {
-    const uint8_t request[] = {7, 0, 0x01, 0x08, target, lowest, attempts};
-    take("SETUP request", request, sizeof request);
+    take("SETUP request", callcontrol_event_direct_setup_request(event, target, lowest, attempts));
 }
 
 static void report(uint8_t fared)
 {
-    const uint8_t event[] = {5, 0, 0x02, 0x08, fared};
-    take("DMA-REPORT", event, sizeof event);
+    take("DMA-REPORT", callcontrol_event_dma_report(event, fared));
 }
 
 /* DT303 has run out: handed in before any other event, and not at all once it was stopped, since it
  * would count for the next attempt or the next call. */
 static void expire(void)
 {
-    const uint8_t event[] = {6, 0, 0x05, 0x08, CALLCONTROL_DT303 & 0xFF, CALLCONTROL_DT303 >> 8};
-
     if (!dt303_runs) {
         puts("expiry of DT303, on its way when it was stopped: not handed in");
         return;
     }
     dt303_runs = false;
-    take("expiry of DT303", event, sizeof event);
+    take("expiry of DT303", callcontrol_event_direct_expiry(event, CALLCONTROL_DT303));
 }
 
 /* No row leaves ACTIVE, so that nothing orders STOP: the host stops DT311 itself, and begins fresh. */
@@ -111,14 +104,12 @@ static void occupation_is_over(void)
 
 int main(void)
 {
-    const uint8_t connect[] = {5, 0, 0x03, 0x08, 4};
-
     callcontrol_direct_fresh(record, sizeof record);
     ask(9, 4, 2);
     report(CALLCONTROL_DIRECT_SENT);
     expire();
     report(CALLCONTROL_DIRECT_SENT);
-    take("DM-CONNECT 4", connect, sizeof connect);
+    take("DM-CONNECT 4", callcontrol_event_dm_connect(event, 4));
     expire();
     ask(9, 4, 2);
     occupation_is_over();

@@ -7,7 +7,7 @@
  *     gcc -std=c11 -Wall -Wextra -Werror -Iinclude examples/c/one_call.c \
  *         target/staticlib/libhost.a -o target/one_call
  */
-#include "callcontrol.h"
+#include "callcontrol_records.h"
 
 #include <stdio.h>
 #include <stdlib.h>
@@ -67,6 +67,9 @@ static const struct kind kinds[] = {
     {CALLCONTROL_MODIFY_INDICATION, "MODIFY indication", "ds"},
 };
 
+/* The event that is handed in next: a function of callcontrol_records.h builds it. */
+static uint8_t event[CALLCONTROL_EVENT_MAX];
+
 static const char *const states[] = {
     "IDLE", "MO-CALL-SETUP", "MT-CALL-SETUP", "CALL-ACTIVE", "WAIT", "CALL-DISCONNECT",
 };
@@ -102,9 +105,9 @@ static const struct kind *find_kind(unsigned long number)
 /* Prints a record the library has read or written, so its length and kind are right. */
 static void print_record(const uint8_t *record)
 {
-    const struct kind *kind = find_kind(little_endian(record + 2, 2));
+    const struct kind *kind = find_kind(callcontrol_kind_of(record));
     const uint8_t *field = record + CALLCONTROL_HEAD_SIZE;
-    const uint8_t *end = record + little_endian(record, 2);
+    const uint8_t *end = record + callcontrol_length_of(record);
     printf("%s", kind->name);
     for (const char *letter = kind->letters; *letter != '\0' && field < end; letter++) {
         unsigned long value = little_endian(field, size_of(*letter));
@@ -117,32 +120,10 @@ static void print_record(const uint8_t *record)
     printf("\n");
 }
 
-/* Writes an event: one value for each letter of its kind, or none for slots. Gives its length. */
-static size_t make_event(uint8_t *event, unsigned int number, const unsigned long *values, size_t count)
-{
-    const struct kind *kind = find_kind(number);
-    size_t len = CALLCONTROL_HEAD_SIZE;
-    for (const char *letter = kind->letters; *letter != '\0' && count-- > 0; letter++) {
-        unsigned long value = *values++;
-        for (size_t byte = 0; byte < size_of(*letter); byte++) {
-            event[len++] = (uint8_t)(value & 0xFF);
-            value >>= 8;
-        }
-    }
-    event[0] = (uint8_t)len;
-    event[1] = 0;
-    event[2] = (uint8_t)(number & 0xFF);
-    event[3] = (uint8_t)(number >> 8);
-    return len;
-}
-
 /* Hands one event to the library and shows what comes of it. */
-static void play(uint8_t *call, unsigned int number, const unsigned long *values, size_t count)
+static void play(uint8_t *call, size_t event_len)
 {
-    uint8_t event[CALLCONTROL_EVENT_MAX];
     uint8_t out[CALLCONTROL_RUN_MAX];
-    size_t event_len = make_event(event, number, values, count);
-
     uint32_t result = callcontrol_step(call, CALLCONTROL_RECORD_SIZE, event, event_len,
                                        out, sizeof out);
 
@@ -156,18 +137,11 @@ static void play(uint8_t *call, unsigned int number, const unsigned long *values
            (unsigned int)call[CALLCONTROL_AT_SLOTS]);
 
     /* A real host would send U-PDUs, set timers and tell its user here. */
-    for (size_t at = 0; at < callcontrol_count_of(result);) {
-        size_t len = (size_t)little_endian(out + at, 2);
+    for (size_t at = 0; at < callcontrol_count_of(result); at += callcontrol_length_of(out + at)) {
         printf("    ");
         print_record(out + at);
-        at += len;
     }
 }
-
-/* The values of an event's letters, in their order, and how many they are. */
-#define VALUES(...) ((const unsigned long[]){__VA_ARGS__}), \
-    sizeof((const unsigned long[]){__VA_ARGS__}) / sizeof(unsigned long)
-#define NO_VALUES VALUES(0)
 
 int main(void)
 {
@@ -176,34 +150,33 @@ int main(void)
         return EXIT_FAILURE;
 
     printf("One call, set up by its user to address 7, with two slots\n");
-    play(call, CALLCONTROL_SETUP_REQUEST, VALUES(7, CALLCONTROL_SIMPLEX, 1, 2));
-    play(call, CALLCONTROL_REPORT_SENT, NO_VALUES);
-    play(call, CALLCONTROL_D_CALL_PROCEEDING, VALUES(21));
-    play(call, CALLCONTROL_D_ALERT, VALUES(21));
-    play(call, CALLCONTROL_D_CONNECT,
-         VALUES(21, CALLCONTROL_QUEUED, CALLCONTROL_SIMPLEX, 3));
+    play(call, callcontrol_event_setup_request_slots(event, 7, CALLCONTROL_SIMPLEX, 1, 2));
+    play(call, callcontrol_event_report_sent(event));
+    play(call, callcontrol_event_d_call_proceeding(event, 21));
+    play(call, callcontrol_event_d_alert(event, 21));
+    play(call, callcontrol_event_d_connect(event, 21, CALLCONTROL_QUEUED, CALLCONTROL_SIMPLEX, 3));
 
     /* The network gives it four slots and changes nothing else: the present plane is told again. */
-    play(call, CALLCONTROL_D_INFO,
-         VALUES(21, 0, CALLCONTROL_T310_CODE_ABSENT, CALLCONTROL_SIMPLEX, 4));
+    play(call, callcontrol_event_d_info_slots(event, 21, 0, CALLCONTROL_T310_CODE_ABSENT,
+                                              CALLCONTROL_SIMPLEX, 4));
 
     /* There is no grant 4: the byte at 6 is wrong. */
-    play(call, CALLCONTROL_D_TX_GRANTED, VALUES(21, 4));
+    play(call, callcontrol_event_d_tx_granted(event, 21, 4));
 
     /* A grant of another call is not ours. */
-    play(call, CALLCONTROL_D_TX_GRANTED, VALUES(22, CALLCONTROL_GRANTED));
-    play(call, CALLCONTROL_D_TX_GRANTED, VALUES(21, CALLCONTROL_GRANTED));
+    play(call, callcontrol_event_d_tx_granted(event, 22, CALLCONTROL_GRANTED));
+    play(call, callcontrol_event_d_tx_granted(event, 21, CALLCONTROL_GRANTED));
 
     /* The path is lost while transmitting, found again on another channel, and restored. */
-    play(call, CALLCONTROL_BREAK, NO_VALUES);
-    play(call, CALLCONTROL_D_TX_GRANTED, VALUES(21, CALLCONTROL_GRANTED));
-    play(call, CALLCONTROL_RESUME, NO_VALUES);
-    play(call, CALLCONTROL_D_CALL_RESTORE,
-         VALUES(21, CALLCONTROL_GRANTED, 1, CALLCONTROL_T310_CODE_ABSENT));
+    play(call, callcontrol_event_break(event));
+    play(call, callcontrol_event_d_tx_granted(event, 21, CALLCONTROL_GRANTED));
+    play(call, callcontrol_event_resume(event));
+    play(call, callcontrol_event_d_call_restore(event, 21, CALLCONTROL_GRANTED, 1,
+                                                CALLCONTROL_T310_CODE_ABSENT));
 
-    play(call, CALLCONTROL_TX_REQUEST, VALUES(0));
-    play(call, CALLCONTROL_RELEASE_REQUEST, NO_VALUES);
-    play(call, CALLCONTROL_REPORT_SENT, NO_VALUES);
-    play(call, CALLCONTROL_D_RELEASE, VALUES(21));
+    play(call, callcontrol_event_tx_request(event, 0));
+    play(call, callcontrol_event_release_request(event));
+    play(call, callcontrol_event_report_sent(event));
+    play(call, callcontrol_event_d_release(event, 21));
     return EXIT_SUCCESS;
 }

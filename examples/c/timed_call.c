@@ -9,13 +9,16 @@
  *     gcc -std=c11 -Wall -Wextra -Werror -Iinclude examples/c/timed_call.c \
  *         target/staticlib/libhost.a -o target/timed_call
  */
-#include "callcontrol.h"
+#include "callcontrol_records.h"
 
 #include <stdio.h>
 #include <stdlib.h>
 
 static uint8_t call[CALLCONTROL_RECORD_SIZE];
 static uint8_t bank[CALLCONTROL_BANK_SIZE];
+
+/* The event that is handed in next: a function of callcontrol_records.h builds it. */
+static uint8_t event[CALLCONTROL_EVENT_MAX];
 
 /* What the counter shows: four seconds and a little before it wraps. */
 static uint32_t counter = 0xFFFFF000u;
@@ -56,11 +59,6 @@ static const char *name_of(unsigned int number)
     return "a message that this host does not know";
 }
 
-static unsigned int two_bytes(const uint8_t *bytes)
-{
-    return bytes[0] | (unsigned int)bytes[1] << 8;
-}
-
 static void must_be_taken(uint32_t result)
 {
     if (callcontrol_answer_of(result) != CALLCONTROL_TAKEN) {
@@ -72,31 +70,33 @@ static void must_be_taken(uint32_t result)
 /* Carries out one message: the timers' go to the bank. A real host would send, switch and tell. */
 static void carry_out(const uint8_t *message)
 {
-    unsigned int kind = two_bytes(message + 2);
-    const uint8_t *body = message + CALLCONTROL_HEAD_SIZE;
-
-    printf("    %s", name_of(kind));
-    if (kind == CALLCONTROL_STOP) {
-        printf(" T%u", two_bytes(body));
-        must_be_taken(callcontrol_bank_stop(bank, sizeof bank, (uint16_t)two_bytes(body)));
-    } else if (kind == CALLCONTROL_START) {
-        printf(" T%u", two_bytes(body));
+    printf("    %s", name_of(callcontrol_kind_of(message)));
+    switch (callcontrol_kind_of(message)) {
+    case CALLCONTROL_STOP:
+        printf(" T%u", (unsigned int)callcontrol_stop_timer(message));
+        must_be_taken(callcontrol_bank_stop(bank, sizeof bank, callcontrol_stop_timer(message)));
+        break;
+    case CALLCONTROL_START:
+        printf(" T%u", (unsigned int)callcontrol_start_timer(message));
         must_be_taken(callcontrol_bank_start(bank, sizeof bank, lengths, CALLCONTROL_LENGTHS,
-                                             (uint16_t)two_bytes(body), body[2]));
-    } else if (kind == CALLCONTROL_CONFIGURE) {
-        printf(" %u", (unsigned int)body[0]);
+                                             callcontrol_start_timer(message),
+                                             callcontrol_start_code(message)));
+        break;
+    case CALLCONTROL_CONFIGURE:
+        printf(" %u", (unsigned int)callcontrol_configure_plane(message));
+        break;
     }
     printf("\n");
 }
 
 /* One step: hands the event to the library, and carries out the messages in their order. */
-static void take(const char *name, const uint8_t *event, size_t event_len)
+static void take(const char *name, const uint8_t *record, size_t len)
 {
     uint8_t out[CALLCONTROL_RUN_MAX];
-    uint32_t result = callcontrol_step(call, sizeof call, event, event_len, out, sizeof out);
+    uint32_t result = callcontrol_step(call, sizeof call, record, len, out, sizeof out);
 
     printf("%08lX %s: answer %u\n", (unsigned long)counter, name, callcontrol_answer_of(result));
-    for (size_t at = 0; at < callcontrol_count_of(result); at += two_bytes(out + at))
+    for (size_t at = 0; at < callcontrol_count_of(result); at += callcontrol_length_of(out + at))
         carry_out(out + at);
 }
 
@@ -108,16 +108,15 @@ static void read_counter(void)
 
     must_be_taken(result);
     for (size_t at = 0; at < callcontrol_count_of(result); at++) {
-        const uint8_t expiry[] = {6, 0, 0x01, 0x04, (uint8_t)(due[at] & 0xFF),
-                                  (uint8_t)(due[at] >> 8)};
+        uint8_t expiry[CALLCONTROL_EVENT_MAX];
         char name[24];
         snprintf(name, sizeof name, "expiry of T%u", (unsigned int)due[at]);
-        take(name, expiry, sizeof expiry);
+        take(name, expiry, callcontrol_event_expiry(expiry, due[at]));
     }
 }
 
 /* An event of the user, the network or the lower layers: a reading goes right before it. */
-static void play(const char *name, const uint8_t *event, size_t event_len)
+static void play(const char *name, size_t event_len)
 {
     read_counter();
     take(name, event, event_len);
@@ -133,9 +132,6 @@ static void wait_for(uint32_t milliseconds)
     counter += milliseconds; /* an event comes between two of these readings */
 }
 
-#define BYTES(...) ((const uint8_t[]){__VA_ARGS__})
-#define PLAY(name, ...) play(name, BYTES(__VA_ARGS__), sizeof BYTES(__VA_ARGS__))
-
 int main(void)
 {
     if (callcontrol_fresh(call, sizeof call) != CALLCONTROL_RECORD_SIZE)
@@ -143,13 +139,14 @@ int main(void)
     if (callcontrol_bank_new(bank, sizeof bank, counter) != CALLCONTROL_BANK_SIZE)
         return EXIT_FAILURE;
 
-    PLAY("SETUP request", 10, 0, 0x01, 0x01, 7, 0, 0, 0, CALLCONTROL_SIMPLEX, 1);
+    play("SETUP request", callcontrol_event_setup_request(event, 7, CALLCONTROL_SIMPLEX, 1));
     wait_for(330);
-    PLAY("REPORT sent", 4, 0, 0x01, 0x03);
+    play("REPORT sent", callcontrol_event_report_sent(event));
     wait_for(670);
-    PLAY("D-CALL PROCEEDING", 6, 0, 0x01, 0x02, 21, 0);
+    play("D-CALL PROCEEDING", callcontrol_event_d_call_proceeding(event, 21));
     wait_for(2090);
-    PLAY("D-CONNECT, granted", 9, 0, 0x03, 0x02, 21, 0, CALLCONTROL_GRANTED, CALLCONTROL_SIMPLEX, 1);
+    play("D-CONNECT, granted",
+         callcontrol_event_d_connect(event, 21, CALLCONTROL_GRANTED, CALLCONTROL_SIMPLEX, 1));
 
     /*
      * The counter wraps while the user speaks, too long: T311 runs out 8 s after D-CONNECT, and is
@@ -159,19 +156,21 @@ int main(void)
 
     /* 50 ms before T310 runs out the network prolongs the call: the whole length counts anew. */
     wait_for(20950);
-    PLAY("D-INFO, T310 anew", 9, 0, 0x06, 0x02, 21, 0, 1, CALLCONTROL_T310_CODE_ABSENT, CALLCONTROL_SIMPLEX);
+    play("D-INFO, T310 anew",
+         callcontrol_event_d_info(event, 21, 1, CALLCONTROL_T310_CODE_ABSENT, CALLCONTROL_SIMPLEX));
     wait_for(1000);
 
     /* The path is lost and found again, and the network does not answer: T306, then T308. */
-    PLAY("BREAK", 4, 0, 0x03, 0x03);
+    play("BREAK", callcontrol_event_break(event));
     wait_for(1540);
-    PLAY("RESUME", 4, 0, 0x04, 0x03);
+    play("RESUME", callcontrol_event_resume(event));
 
     /* T306 is due at 6 s. An event that comes after that, and before a reading, finds the call released. */
     wait_for(5900);
     counter += 150;
-    PLAY("D-CALL RESTORE, too late", 9, 0, 0x0C, 0x02, 21, 0, CALLCONTROL_GRANTED, 1,
-         CALLCONTROL_T310_CODE_ABSENT);
+    play("D-CALL RESTORE, too late",
+         callcontrol_event_d_call_restore(event, 21, CALLCONTROL_GRANTED, 1,
+                                          CALLCONTROL_T310_CODE_ABSENT));
     wait_for(20000);
     return EXIT_SUCCESS;
 }

@@ -6,7 +6,8 @@
 use callcontrol_tests::account::{boundary, Call};
 use callcontrol_tests::histories::{input, lines, names, root, trace};
 use callcontrol_tests::library;
-use callcontrol_tests::programs::{self, run_within, Limits, LIMITS};
+use callcontrol_tests::programs::{self, run_within, Limits, Ran, LIMITS};
+use std::env;
 use std::fs::{self, File};
 use std::process::{Command, Stdio};
 use std::time::Duration;
@@ -162,6 +163,50 @@ fn an_output_that_cannot_be_written() {
         assert_eq!(ran.stdout, "");
         assert_eq!(ran.stderr, "calltrace: standard output cannot be written\n");
         assert!(ran.status.success(), "the language has no exit status");
+    }
+}
+
+/// Runs the program with a `write` of the tests' own, which takes one byte of the output at a time, and none behind the first `most`.
+fn run_with_short_writes(input: &[u8], most: usize) -> Ran {
+    let x86 = cfg!(target_arch = "x86_64");
+    let name = format!("short_write-{most}-{}-{}.so", input.len(), std::process::id());
+    let object = env::temp_dir().join(name);
+    let mut compile = Command::new(if x86 { "gcc" } else { "x86_64-linux-gnu-gcc" });
+    compile.args(["-std=gnu11", "-O2", "-Wall", "-Wextra", "-Werror", "-fno-builtin"]);
+    compile.args(["-shared", "-fPIC", "-nostdlib"]).arg(format!("-DMOST={most}"));
+    compile.arg(root().join("tests/c/short_write.c")).arg("-o").arg(&object);
+    let compiled = compile.output().unwrap_or_else(|error| panic!("{error}: {compile:?}"));
+    assert!(compiled.status.success(), "{}", String::from_utf8_lossy(&compiled.stderr));
+    let mut command = programs::calltrace();
+    match x86 {
+        true => command.env("LD_PRELOAD", &object),
+        false => command.env("QEMU_SET_ENV", format!("LD_PRELOAD={}", object.display())),
+    };
+    let ran = run_within(command, Some(input), &LIMITS);
+    let _ = fs::remove_file(object);
+    ran
+}
+
+/// Where a write takes less than it was given, the program goes on behind that, and each line comes out once.
+#[test]
+fn an_output_that_takes_one_byte_at_a_time() {
+    for input in [input("checked_example"), input("colliding_release").repeat(1000)] {
+        let ran = run_with_short_writes(&input, 1 << 30);
+        assert_eq!(ran.stderr, "");
+        let expected = trace(&input, Call::FRESH.pack(), boundary::step);
+        assert!(ran.stdout == expected, "not each line once, behind a short write");
+    }
+}
+
+/// Where the output fails behind short writes, that is told, and what came before stands. So that `write` is the one that runs.
+#[test]
+fn an_output_that_fails_behind_short_writes() {
+    let long = input("colliding_release").repeat(1000);
+    for (input, most) in [(input("whole_call"), 300), (long, 100_000)] {
+        let ran = run_with_short_writes(&input, most);
+        assert_eq!(ran.stderr, "calltrace: standard output cannot be written\n");
+        let expected = trace(&input, Call::FRESH.pack(), boundary::step);
+        assert!(ran.stdout == expected[..most], "something else than its first {most} bytes");
     }
 }
 

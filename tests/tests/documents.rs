@@ -191,10 +191,11 @@ fn names(document: &str) -> Vec<String> {
 /// The files and folders that the documents name are there, and so are the header's names.
 #[test]
 fn what_the_documents_name_is_there() {
-    let header = fs::read_to_string(root().join("include/callcontrol.h")).expect("the header");
+    let read = |name| fs::read_to_string(root().join(name)).expect("a header");
+    let header = ["include/callcontrol.h", "include/callcontrol_records.h"].map(read).concat();
     for document in DOCUMENTS {
         for name in names(document) {
-            let word = name.split_whitespace().next().unwrap_or("");
+            let word = name.split([' ', '(']).next().unwrap_or("");
             let folders = ["crates/", "docs/", "examples/", "include/", "tests/", ".ci/"];
             if folders.iter().any(|folder| word.starts_with(folder)) {
                 assert!(root().join(word).exists(), "{document}: {word} is not there");
@@ -204,6 +205,8 @@ fn what_the_documents_name_is_there() {
                     !start.starts_with("callcontrol") || header.contains(start),
                     "{document}: {word}"
                 );
+            } else if word.ends_with(".h") && !word.contains('/') {
+                assert!(root().join("include").join(word).exists(), "{document}: {word}");
             } else if word.to_lowercase().starts_with("callcontrol_") {
                 let has = header
                     .split(|char: char| !char.is_alphanumeric() && char != '_')

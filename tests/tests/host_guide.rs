@@ -191,6 +191,40 @@ fn a_decision_is_for_one_question_of_a_call() {
 }
 
 #[test]
+fn a_cancel_of_which_nothing_is_heard_is_decided_at_t330() {
+    let mut rooms = Rooms::fresh();
+    for number in 1..=4 {
+        assert_eq!(rooms.ask(number, 40 + number, 3), (0, CANCEL.to_vec()));
+    }
+    assert_eq!(rooms.ask(5, 50, 2), (51, vec![]), "four wait for a cancel");
+    assert_eq!(rooms.decide(1, 2), (52, vec![]), "T330's own decision is for the user's");
+    assert_eq!(rooms.decide(1, 4), told(1, 2), "so it has failed");
+    assert_eq!(rooms.decide(1, 3), (52, vec![]), "what is heard later is for nobody");
+    assert_eq!(rooms.ask(5, 50, 2), (0, vec![]), "in the room of the first");
+    assert_eq!(rooms.decide(5, 2), told(5, 1));
+}
+
+#[test]
+fn the_question_on_the_ending_pdu_is_accepted_before_the_end_or_after_it() {
+    for asked in [0, 5] {
+        for end_first in [false, true] {
+            let mut rooms = Rooms::fresh();
+            assert_eq!(rooms.ask(1, 40, 2), (0, vec![]));
+            let turns = [end_first, !end_first].map(|end| {
+                if end {
+                    rooms.turn(Function::ChannelEnded, 0, 40, 0)
+                } else {
+                    rooms.ask(2, 40, asked)
+                }
+            });
+            assert_eq!(turns[usize::from(end_first)], told(2, 0), "asked {asked}");
+            assert_eq!(turns[usize::from(!end_first)], told(1, 1), "asked {asked}");
+            assert_eq!(rooms.0, Rooms::fresh().0);
+        }
+    }
+}
+
+#[test]
 fn an_expiry_still_in_hand_counts_for_the_timer_that_was_started_anew() {
     let mut host = Host::after(&[SETUP_REQUEST, CONNECT, CEASED, INFO]);
     assert_eq!(
@@ -275,6 +309,93 @@ fn release_request_and_expiry_of_t308_are_rid_of_any_call() {
         host.answer(RELEASE_REQUEST);
         host.answer(EXPIRY_308);
         assert!(host.is_fresh(), "{events:?}");
+    }
+}
+
+/// A bank in which every timer runs for 10,000 ms, carrying out what a step wrote.
+struct Bank(Vec<u8>);
+
+impl Bank {
+    fn new() -> Bank {
+        Bank(alone(&Request::of(Function::BankNew, &[0; 39], &[], 0, 0)).record)
+    }
+
+    fn carry_out(&mut self, written: &[u8]) {
+        let lengths: Vec<u8> = [10_000u32; 22].into_iter().flat_map(u32::to_le_bytes).collect();
+        let mut rest = written;
+        while !rest.is_empty() {
+            let (message, behind) = rest.split_at(usize::from(rest[0]));
+            let number = |at: usize| u32::from(message[at]);
+            let order = match message[2..4] {
+                [0x01, 0x06] => Request::of(Function::BankStop, &self.0, &[], 0, 0)
+                    .with(number(4) | number(5) << 8),
+                [0x02, 0x06] => Request::of(Function::BankStart, &self.0, &lengths, 0, 0)
+                    .with(number(4) | number(5) << 8 | number(6) << 16),
+                _ => {
+                    rest = behind;
+                    continue;
+                }
+            };
+            let done = alone(&order);
+            assert_eq!(done.word, 0);
+            self.0 = done.record;
+            rest = behind;
+        }
+    }
+
+    /// The timers that a reading hands out.
+    fn due(&mut self, reading: u32) -> Vec<u16> {
+        let request = Request::of(Function::BankAdvance, &self.0, &[], 14, 0).with(reading);
+        let done = alone(&request);
+        self.0 = done.record;
+        let count = done.word as usize;
+        assert!(count <= 7, "it is taken");
+        let pairs = done.out.chunks_exact(2).take(count);
+        pairs.map(|pair| u16::from_le_bytes([pair[0], pair[1]])).collect()
+    }
+
+    fn stop(&mut self, timer: u32) {
+        self.0 = alone(&Request::of(Function::BankStop, &self.0, &[], 0, 0).with(timer)).record;
+    }
+}
+
+/// The events of a call from its set-up to its release, each with its timers carried out.
+fn released(host: &mut Host, bank: &mut Bank) {
+    for event in [SETUP_REQUEST, CONNECT, RELEASE_REQUEST] {
+        assert_eq!(host.answer(event), 0);
+        bank.carry_out(&host.written);
+    }
+}
+
+/// T308's expiry that the host made itself gets no STOP, so a bank goes on with it until it is stopped there.
+#[test]
+fn after_an_expiry_of_its_own_a_host_stops_t308_in_the_bank() {
+    for stops in [false, true] {
+        let (mut host, mut bank) = (Host::after(&[]), Bank::new());
+        released(&mut host, &mut bank);
+        assert_eq!(host.answer(EXPIRY_308), 0);
+        bank.carry_out(&host.written);
+        assert!(host.is_fresh());
+        if stops {
+            bank.stop(308);
+        }
+        // The next call is up when the old T308 would run out.
+        assert_eq!(bank.due(4_000), [0u16; 0]);
+        for event in [SETUP_REQUEST, CONNECT, CEASED] {
+            assert_eq!(host.answer(event), 0);
+            bank.carry_out(&host.written);
+        }
+        let before = host.record;
+        let left = bank.due(10_000);
+        assert_eq!(left, if stops { vec![] } else { vec![308] });
+        for _ in left {
+            assert_eq!((host.answer(EXPIRY_308), host.record), (6, before), "it cuts nothing");
+        }
+        // And its release has the whole time, since START counts anew.
+        assert_eq!(host.answer(RELEASE_REQUEST), 0);
+        bank.carry_out(&host.written);
+        assert_eq!(bank.due(19_999), [0u16; 0]);
+        assert_eq!(bank.due(20_000), [308]);
     }
 }
 
