@@ -1,10 +1,11 @@
 -- What a step gives back once its messages are counted, and laid where they fit.
+use Rattle.std.specs.Prelude.{Some, None}
 use Prim.Native.Nat.{ℕ, ◌≤◌, ◌<◌}
 use mathlib.Core.Path.{◌≡◌, refl, sym, ◌∙◌, ap}
 use mathlib.Core.Bool.{Bool, true, false, cond}
 use mathlib.Core.List.{List}
 use native.Mathlib.Omega.{arith}
-use borrow.Author.Tests.{eq-eqb, ne_eqb, le-leb, lt-leb}
+use borrow.Author.Tests.{le-leb, lt-leb}
 use lib.ListN.{length}
 use Rattle.records.specs.declared.events.Event.{Event}
 use Rattle.callcontrol.specs.declared.call.Call.{Call}
@@ -40,33 +41,23 @@ by_row c e b d x agrees row taken h =
 
 -- a row, and the draft that it stands for
 
-settled_row : (c : Call) (r : Row) (d : Draft) → draft_of c r ≡ d → (r.orders ≡ 0 → ⊥) → settled c r ≡ d
-unfolding draft_of
-settled_row c r d h some = rw (ne_eqb _ _ some) at h
-
 settled_taken : (c : Call) (r : Row) → (settled c r).taken ≡ true
 unfolding settled
 settled_taken c r = refl
 
-pub by_orders : (c : Call) (e : Event) (b : List ℕ) (r : Row) (d : Draft) (x : Outcome) → other_call c e ≡ false → draft_of c r ≡ row_for c e
-    → (r.orders ≡ 0 → ⊥) → over_transmission c e ≡ false → d ≡ settled c r → x ≡ carried c d b → x ≡ decided c e b
-by_orders c e b r d x agrees row some silent settle h =
-    by_row c e b d x agrees (settle ∙ settled_row c r (row_for c e) row some) (ap (λ (w : Draft). w.taken) settle ∙ settled_taken c r) (rw silent h)
+pub by_orders : (c : Call) (e : Event) (b : List ℕ) (r : Row) (d : Draft) (x : Outcome) → other_call c e ≡ false → draft_of c (Some r) ≡ row_for c e
+    → over_transmission c e ≡ false → d ≡ settled c r → x ≡ carried c d b → x ≡ decided c e b
+by_orders c e b r d x agrees row silent settle h =
+    by_row c e b d x agrees (settle ∙ row) (ap (λ (w : Draft). w.taken) settle ∙ settled_taken c r) (rw silent h)
 
-pub by_transmission : (c : Call) (e : Event) (b : List ℕ) (r : Row) → other_call c e ≡ false → draft_of c r ≡ row_for c e → (r.orders ≡ 0 → ⊥)
+pub by_transmission : (c : Call) (e : Event) (b : List ℕ) (r : Row) → other_call c e ≡ false → draft_of c (Some r) ≡ row_for c e
     → over_transmission c e ≡ true → refusal 8 c b ≡ decided c e b
-by_transmission c e b r agrees row some over =
-    by_row c e b (settled c r) (refusal 8 c b) agrees (settled_row c r (row_for c e) row some) (settled_taken c r) (rw over refl)
-
-no_row_lem : (c : Call) (r : Row) (d : Draft) → draft_of c r ≡ d → r.orders ≡ 0 → d.taken ≡ false
-unfolding draft_of no_row
-no_row_lem c r d h none = ap (λ (w : Draft). w.taken) (sym (rw (eq-eqb _ _ none) at h))
+by_transmission c e b r agrees row over = by_row c e b (settled c r) (refusal 8 c b) agrees row (settled_taken c r) (rw over refl)
 
 pub by_other : (c : Call) (e : Event) (b : List ℕ) → other_call c e ≡ true → refusal 5 c b ≡ decided c e b
 unfolding decided
 by_other c e b other = rw other
 
-pub by_none : (c : Call) (e : Event) (b : List ℕ) (r : Row) → other_call c e ≡ false → draft_of c r ≡ row_for c e → r.orders ≡ 0
-    → refusal 6 c b ≡ decided c e b
-unfolding decided
-by_none c e b r agrees row none = rw (agrees, no_row_lem c r (row_for c e) row none)
+pub by_none : (c : Call) (e : Event) (b : List ℕ) → other_call c e ≡ false → draft_of c None ≡ row_for c e → refusal 6 c b ≡ decided c e b
+unfolding decided no_row
+by_none c e b agrees row = rw (agrees, ap (λ (w : Draft). w.taken) (sym row))

@@ -1,7 +1,11 @@
 -- Messages laid one after the other are their bytes stored one after the other, and how many bytes they are.
+use Rattle.std.specs.Prelude.{◌/◌, ◌%◌, ◌&&◌}
+use Rattle.std.specs.Bool.{beq}
+use Rattle.std.specs.List.{list_any}
+use Rattle.std.proofs.lemmas.List.{append_assoc}
 use Prim.Native.Nat.{ℕ, zero, suc, ◌+◌, ◌*◌, ◌≤◌}
-use mathlib.Core.Path.{◌≡◌, refl, sym, ◌∙◌, ap}
-use mathlib.Core.Bool.{Bool, true, false, cond, not, ◌||◌}
+use mathlib.Core.Path.{◌≡◌, refl, sym, ◌∙◌, ap, subst}
+use mathlib.Core.Bool.{Bool, true, false, cond, not}
 use mathlib.Core.List.{List, [], ◌∷◌, ◌++◌}
 use native.Mathlib.Omega.{arith}
 use borrow.Author.Tests.{le-leb, ne_eqb, eqb-true, not-false}
@@ -14,8 +18,11 @@ use Rattle.records.specs.Bodies.{laid, laid_next, flat_size}
 use Rattle.records.specs.Tables.{flat}
 use Rattle.records.specs.Messages.{messages, message_bytes, message_size, message_laid}
 use Rattle.records.proofs.Laws.{sets-append, length-flat_bytes}
+use Rattle.callcontrol.specs.declared.row.Row.{Row}
+use Rattle.callcontrol.specs.Settle.{pdu_by, user_by, U_SETUP, SETUP_INDICATION}
 use Rattle.callcontrol.specs.Draft.{Slot, Draft}
-use Rattle.callcontrol.specs.Call.{T301, T302, T303, T306, T308, T310, T311}
+use Rattle.callcontrol.specs.declared.call.Call.{Call}
+use Rattle.callcontrol.specs.Call.{all_stopped, T301, T302, T303, T306, T308, T310, T311}
 use Rattle.callcontrol.specs.Writing.{when, held, by_number, starting, messages_in, bytes_of, lay_all, Laid, count_of}
 
 -- what is laid in two parts
@@ -173,24 +180,6 @@ some n h = rw (ne_eqb n 0 h) refl
 abbrev flagged : Bool → Bool → Bool → Bool → Bool → Bool → Bool → ℕ
 flagged a b c d e f g = cond a 1 0 + cond b 1 0 + cond c 1 0 + cond d 1 0 + cond e 1 0 + cond f 1 0 + cond g 1 0
 
-any_seven : (a b c d e f g : Bool) → (a || b || c || d || e || f || g) ≡ not (eqb (flagged a b c d e f g) 0)
-any_seven true b c d e f g = some (flagged true b c d e f g) (λ z. omega arith)
-any_seven false true c d e f g = some (flagged false true c d e f g) (λ z. omega arith)
-any_seven false false true d e f g = some (flagged false false true d e f g) (λ z. omega arith)
-any_seven false false false true e f g = some (flagged false false false true e f g) (λ z. omega arith)
-any_seven false false false false true f g = some (flagged false false false false true f g) (λ z. omega arith)
-any_seven false false false false false true g = some (flagged false false false false false true g) (λ z. omega arith)
-any_seven false false false false false false true = some (flagged false false false false false false true) (λ z. omega arith)
-any_seven false false false false false false false = refl
-
-pub any_flags : (flags : List Bool)
-    → (get_or flags T301 false || get_or flags T302 false || get_or flags T303 false || get_or flags T306 false || get_or flags T308 false || get_or flags T310 false || get_or flags T311 false)
-    ≡ not (eqb (count_of flags) 0)
-unfolding count_of
-any_flags flags =
-    any_seven (get_or flags T301 false) (get_or flags T302 false) (get_or flags T303 false) (get_or flags T306 false) (get_or flags T308 false)
-    (get_or flags T310 false) (get_or flags T311 false)
-
 pub lay_none : {b : List ℕ} {at : ℕ} {ms : List Message} → ms ≡ [] → Laid b at ms at b
 unfolding lay_all
 lay_none {b} {at} e = record { is = rw e }
@@ -206,5 +195,113 @@ unfolding message_size flat_size
 size_u_setup a d q zero = refl
 size_u_setup a d q (suc v) = rw (ne_eqb (suc v) 0 (λ z. absurd (omega arith))) refl
 
-pub size_setup : (a d q v : ℕ) → 10 + cond (not (eqb v 0)) 1 0 ≡ length (bytes_of (Message.USetup a d q v ∷ []))
-size_setup a d q v = sym (size_one (Message.USetup a d q v) ∙ size_u_setup a d q v)
+-- how many bytes a row's U-PDU and its user primitive take
+
+either_slot : (b : Bool) (s t : Slot) → length (bytes_of (held (cond b s t))) ≡ cond b (length (bytes_of (held s))) (length (bytes_of (held t)))
+either_slot true s t = refl
+either_slot false s t = refl
+
+size_none : length (bytes_of []) ≡ 0
+unfolding bytes_of
+size_none = refl
+
+pub size_pdu : (r : Row) → length (bytes_of (held (pdu_by r))) ≡
+    cond (eqb (r.orders / U_SETUP % 16) 1) (10 + cond (not (eqb r.value 0)) 1 0)
+    (cond (eqb (r.orders / U_SETUP % 16) 2) 6
+    (cond (eqb (r.orders / U_SETUP % 16) 3) 7
+    (cond (eqb (r.orders / U_SETUP % 16) 4) 6
+    (cond (eqb (r.orders / U_SETUP % 16) 5) 6 (cond (eqb (r.orders / U_SETUP % 16) 6) 6 (cond (eqb (r.orders / U_SETUP % 16) 7) 11 0))))))
+unfolding pdu_by message_size flat_size
+size_pdu r = simp (either_slot, size_one, size_none) (rw (size_u_setup r.address r.mode r.asked r.value) refl)
+
+pub size_user : (r : Row) → length (bytes_of (held (user_by r))) ≡
+    cond (eqb (r.orders / SETUP_INDICATION % 16) 1) 11
+    (cond (eqb (r.orders / SETUP_INDICATION % 16) 2) 7
+    (cond (eqb (r.orders / SETUP_INDICATION % 16) 3) 4
+    (cond (eqb (r.orders / SETUP_INDICATION % 16) 4) 4
+    (cond (eqb (r.orders / SETUP_INDICATION % 16) 5) 5
+    (cond (eqb (r.orders / SETUP_INDICATION % 16) 6) 5
+    (cond (eqb (r.orders / SETUP_INDICATION % 16) 7) 4
+    (cond (eqb (r.orders / SETUP_INDICATION % 16) 8) 5 (cond (eqb (r.orders / SETUP_INDICATION % 16) 9) 6 0))))))))
+unfolding user_by message_size flat_size
+size_user r = simp (either_slot, size_one, size_none) refl
+
+-- the flags of the first timers, counted
+abbrev pub count_to : ℕ → List Bool → ℕ
+count_to zero flags = 0
+count_to (suc k) flags = count_to k flags + cond (get_or flags k false) 1 0
+
+pub count_bound : (k : ℕ) (flags : List Bool) → count_to k flags ≤ k
+count_bound zero flags = omega arith
+count_bound (suc k) flags = omega (arith, count_bound k flags, at_most (get_or flags k false) 1)
+
+-- the timers by their numbers, and the orders of the first ones
+abbrev pub numbers : List ℕ
+numbers = 301 ∷ 302 ∷ 303 ∷ 306 ∷ 308 ∷ 310 ∷ 311 ∷ []
+
+abbrev pub by_number_to : (ℕ → Message) → ℕ → List Bool → List Message
+by_number_to order zero flags = []
+by_number_to order (suc k) flags = by_number_to order k flags ++ when (get_or flags k false) (order (get_or numbers k 0))
+
+all_by_number : (order : ℕ → Message) (flags : List Bool) → by_number_to order 7 flags ≡ by_number order flags
+unfolding by_number
+all_by_number order flags = simp append_assoc refl
+
+-- one order more, and all of them
+pub laid_further : {a b c : List ℕ} {at r e : ℕ} (order : ℕ → Message) (k : ℕ) (flags : List Bool) → Laid a at (by_number_to order k flags) r b
+    → Laid b r (when (get_or flags k false) (order (get_or numbers k 0))) e c → Laid a at (by_number_to order (k + 1) flags) e c
+laid_further {a} {b} {c} {at} {r} {e} order k flags p q =
+    let next : suc k ≡ k + 1 = omega arith in
+    subst (λ n. Laid a at (by_number_to order n flags) e c) next (lay_then p q)
+
+pub laid_all : {a b : List ℕ} {at r : ℕ} (order : ℕ → Message) (k : ℕ) (flags : List Bool) → k ≡ 7 → Laid a at (by_number_to order k flags) r b
+    → Laid a at (by_number order flags) r b
+laid_all {a} {b} {at} {r} order k flags e h =
+    subst (λ ms. Laid a at ms r b) (ap (λ n. by_number_to order n flags) e ∙ all_by_number order flags) h
+
+-- an array of seven flags
+seven_of : (ts : List Bool) → length ts ≡ 7
+    → ts ≡ get_or ts 0 false ∷ get_or ts 1 false ∷ get_or ts 2 false ∷ get_or ts 3 false ∷ get_or ts 4 false ∷ get_or ts 5 false ∷ get_or ts 6 false ∷ []
+seven_of [] h = absurd (omega arith)
+seven_of (a ∷ []) h = absurd (omega arith)
+seven_of (a ∷ b ∷ []) h = absurd (omega arith)
+seven_of (a ∷ b ∷ c ∷ []) h = absurd (omega arith)
+seven_of (a ∷ b ∷ c ∷ d ∷ []) h = absurd (omega arith)
+seven_of (a ∷ b ∷ c ∷ d ∷ e ∷ []) h = absurd (omega arith)
+seven_of (a ∷ b ∷ c ∷ d ∷ e ∷ f ∷ []) h = absurd (omega arith)
+seven_of (a ∷ b ∷ c ∷ d ∷ e ∷ f ∷ g ∷ []) h = refl
+seven_of (a ∷ b ∷ c ∷ d ∷ e ∷ f ∷ g ∷ k ∷ ts) h = absurd (omega arith)
+
+any_seven : (a b c d e f g : Bool) → list_any (λ y. beq y true) (a ∷ b ∷ c ∷ d ∷ e ∷ f ∷ g ∷ []) ≡ not (eqb (flagged a b c d e f g) 0)
+any_seven true b c d e f g = some (flagged true b c d e f g) (λ z. omega arith)
+any_seven false true c d e f g = some (flagged false true c d e f g) (λ z. omega arith)
+any_seven false false true d e f g = some (flagged false false true d e f g) (λ z. omega arith)
+any_seven false false false true e f g = some (flagged false false false true e f g) (λ z. omega arith)
+any_seven false false false false true f g = some (flagged false false false false true f g) (λ z. omega arith)
+any_seven false false false false false true g = some (flagged false false false false false true g) (λ z. omega arith)
+any_seven false false false false false false true = some (flagged false false false false false false true) (λ z. omega arith)
+any_seven false false false false false false false = refl
+
+pub any_flags : (flags : List Bool) → length flags ≡ 7 → list_any (λ y. beq y true) flags ≡ not (eqb (count_of flags) 0)
+unfolding count_of
+any_flags ts h =
+    ap (list_any (λ y. beq y true)) (seven_of ts h)
+    ∙ any_seven (get_or ts 0 false) (get_or ts 1 false) (get_or ts 2 false) (get_or ts 3 false) (get_or ts 4 false) (get_or ts 5 false) (get_or ts 6 false)
+
+none_seven : (a b c d e f g : Bool) → not (list_any (λ y. beq y true) (a ∷ b ∷ c ∷ d ∷ e ∷ f ∷ g ∷ [])) ≡ (not a && not b && not c && not d && not e && not f && not g)
+none_seven true b c d e f g = refl
+none_seven false true c d e f g = refl
+none_seven false false true d e f g = refl
+none_seven false false false true e f g = refl
+none_seven false false false false true f g = refl
+none_seven false false false false false true g = refl
+none_seven false false false false false false true = refl
+none_seven false false false false false false false = refl
+
+-- the same of a call's timers
+pub none_runs : (call : Call) → length call.timers ≡ 7 → not (list_any (λ y. beq y true) call.timers) ≡ all_stopped call
+unfolding all_stopped
+none_runs call h =
+    let ts = call.timers in
+    ap (λ w. not (list_any (λ y. beq y true) w)) (seven_of ts h)
+    ∙ none_seven (get_or ts 0 false) (get_or ts 1 false) (get_or ts 2 false) (get_or ts 3 false) (get_or ts 4 false) (get_or ts 5 false) (get_or ts 6 false)

@@ -3,7 +3,7 @@
 -- The orders stand here once more because a constant of src/ has no name in the definitions: the prover sees its number alone. One that
 -- differed would be refused where its row is held to that of Rows (proofs/Settled). So would a verb on timers that differed from the one
 -- of Draft: here they work on flags alone, as the code does before there is a draft.
-use Rattle.std.specs.Prelude.{ℕ, ◌+◌, ◌/◌, ◌%◌, Bool, true, false, cond, not, ◌&&◌, ◌||◌, List, eqb, get_or, set}
+use Rattle.std.specs.Prelude.{ℕ, ◌+◌, ◌/◌, ◌%◌, Bool, true, false, cond, not, ◌&&◌, ◌||◌, List, Option, None, Some, eqb, get_or, set}
 use Rattle.records.specs.declared.messages.Message.{Message}
 use Rattle.callcontrol.specs.declared.call.State.{State}
 use Rattle.callcontrol.specs.declared.call.Path.{Path}
@@ -346,14 +346,12 @@ as_draft d =
     record
     { call = d.call; stops = d.stops; starts = d.starts; cancel = has d.row.orders CANCEL; pdu = pdu_by d.row; configure = d.configure; user = user_by d.row; taken = true }
 
--- 0 is no row
-unfoldable pub draft_of : Call → Row → Draft
-draft_of c r = cond (eqb r.orders 0) (no_row c) (settled c r)
+-- no row, or the draft that the row stands for
+abbrev pub draft_of : Call → Option Row → Draft
+draft_of c None = no_row c
+draft_of c (Some r) = settled c r
 
 -- rows that store little, as the code makes them
-
-abbrev pub none_row : Row
-none_row = record { orders = 0; id = 0; address = 0; mode = 0; asked = 0; code = 0; slots = 0; value = 0 }
 
 -- stores nothing
 abbrev pub row_of : Call → ℕ → ℕ → Row

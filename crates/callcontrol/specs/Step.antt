@@ -1,15 +1,14 @@
 -- The step: the answers in their order, and what each gives back.
-use Rattle.std.specs.Prelude.{ℕ, Bool, false, cond, not, ◌&&◌, ◌||◌, List, leb, eqb, length}
+use Rattle.std.specs.Prelude.{ℕ, Bool, false, cond, not, ◌&&◌, ◌||◌, List, Option, None, Some, Result, Ok, Err, leb, eqb, length}
 use Rattle.std.proofs.lemmas.List.Edits.{sets}
 use Rattle.records.specs.declared.events.Event.{Event}
 use Rattle.records.specs.declared.events.Event.TheVariants.{SetupRequest, SetupResponse, ReleaseRequest, TxRequest, DCallProceeding, DAlert, DConnect, DConnectAcknowledge, DSetup, DInfo, DTxGranted, DTxCeased, DTxInterrupt, DTxWait, DTxContinue, DCallRestore, DDisconnect, DRelease, ReportSent, ReportFailed, Break, Resume, Expiry}
-use Rattle.records.specs.declared.events.EventRead.{EventRead}
+use Rattle.records.specs.Bodies.{unreadable_number, unreadable_place}
 use Rattle.records.specs.Tables.{Read, taken, refused, read, flat}
 use Rattle.records.specs.Events.{events}
 use Rattle.callcontrol.specs.declared.call.Call.{Call}
 use Rattle.callcontrol.specs.Draft.{Draft}
-use Rattle.callcontrol.specs.declared.step.Answer.{Answer}
-use Rattle.callcontrol.specs.declared.step.Named.{Named}
+use Rattle.callcontrol.specs.declared.step.Refusal.{Refusal}
 use Rattle.callcontrol.specs.declared.step.Stepped.{Stepped}
 use Rattle.callcontrol.specs.Call.{sound, is_idle, transmits}
 use Rattle.callcontrol.specs.Rows.{row_for}
@@ -32,35 +31,35 @@ abbrev pub refusal : ℕ → Call → List ℕ → Outcome
 refusal n c buffer = refusal_at n 0 c buffer
 
 -- the identifier of a network event but D-SETUP
-abbrev pub named_in : Event → Named
-named_in (SetupRequest a d q s) = Named.NoCall
-named_in SetupResponse = Named.NoCall
-named_in ReleaseRequest = Named.NoCall
-named_in (TxRequest k) = Named.NoCall
-named_in (DCallProceeding i) = Named.Id i
-named_in (DAlert i) = Named.Id i
-named_in (DConnect i g d o s) = Named.Id i
-named_in (DConnectAcknowledge i g o) = Named.Id i
-named_in (DSetup i a d) = Named.NoCall
-named_in (DInfo i r o d s) = Named.Id i
-named_in (DTxGranted i g) = Named.Id i
-named_in (DTxCeased i) = Named.Id i
-named_in (DTxInterrupt i g) = Named.Id i
-named_in (DTxWait i) = Named.Id i
-named_in (DTxContinue i k) = Named.Id i
-named_in (DCallRestore i g r o) = Named.Id i
-named_in (DDisconnect i) = Named.Id i
-named_in (DRelease i) = Named.Id i
-named_in ReportSent = Named.NoCall
-named_in ReportFailed = Named.NoCall
-named_in Break = Named.NoCall
-named_in Resume = Named.NoCall
-named_in (Expiry n) = Named.NoCall
+abbrev pub named_in : Event → Option ℕ
+named_in (SetupRequest a d q s) = None
+named_in SetupResponse = None
+named_in ReleaseRequest = None
+named_in (TxRequest k) = None
+named_in (DCallProceeding i) = Some i
+named_in (DAlert i) = Some i
+named_in (DConnect i g d o s) = Some i
+named_in (DConnectAcknowledge i g o) = Some i
+named_in (DSetup i a d) = None
+named_in (DInfo i r o d s) = Some i
+named_in (DTxGranted i g) = Some i
+named_in (DTxCeased i) = Some i
+named_in (DTxInterrupt i g) = Some i
+named_in (DTxWait i) = Some i
+named_in (DTxContinue i k) = Some i
+named_in (DCallRestore i g r o) = Some i
+named_in (DDisconnect i) = Some i
+named_in (DRelease i) = Some i
+named_in ReportSent = None
+named_in ReportFailed = None
+named_in Break = None
+named_in Resume = None
+named_in (Expiry n) = None
 
 -- an identifier that differs from the held one; if 0 is held outside IDLE, every one agrees
-abbrev pub differs : Call → Named → Bool
-differs c Named.NoCall = false
-differs c (Named.Id i) = not (eqb i c.id) && (not (eqb c.id 0) || is_idle c)
+abbrev pub differs : Call → Option ℕ → Bool
+differs c None = false
+differs c (Some i) = not (eqb i c.id) && (not (eqb c.id 0) || is_idle c)
 
 unfoldable pub other_call : Call → Event → Bool
 other_call c e = differs c (named_in e)
@@ -92,38 +91,25 @@ when_read (refused n place) c buffer = refusal_at n place c buffer
 unfoldable pub step_of : Call → List ℕ → List ℕ → Outcome
 step_of c bytes buffer = cond (sound c) (when_read (read events bytes) c buffer) (refusal 1 c buffer)
 
--- the code's answer as the paper's number
-abbrev pub answer_number : Answer → ℕ
-answer_number Answer.Taken = 0
-answer_number Answer.NotSound = 1
-answer_number Answer.BadLength = 2
-answer_number Answer.UnknownKind = 3
-answer_number Answer.Retired = 9
-answer_number Answer.BadBody = 4
-answer_number Answer.OtherCall = 5
-answer_number Answer.NoRow = 6
-answer_number Answer.NoRoom = 7
-answer_number Answer.OwnTransmission = 8
-
-abbrev pub as_outcome : Stepped → List ℕ → Outcome
-as_outcome r buffer = record { answer = answer_number r.answer; place = r.place; call = r.call; count = r.count; buffer = buffer }
-
--- the code's refusal
-abbrev pub refusing : Answer → ℕ → Call → Stepped
-refusing a place c = record { answer = a; place = place; count = 0; call = c }
-
--- the code's answer where no event was read
-abbrev pub unread_as : EventRead → Answer
-unread_as (EventRead.Is e) = Answer.Taken
-unread_as EventRead.BadLength = Answer.BadLength
-unread_as EventRead.UnknownKind = Answer.UnknownKind
-unread_as EventRead.Retired = Answer.Retired
-unread_as (EventRead.BadBody place) = Answer.BadBody
+-- the code's refusal as the paper's number
+abbrev pub answer_number : Refusal → ℕ
+answer_number Refusal.NotSound = 1
+answer_number (Refusal.Unreadable u) = unreadable_number u
+answer_number Refusal.OtherCall = 5
+answer_number Refusal.NoRow = 6
+answer_number Refusal.NoRoom = 7
+answer_number Refusal.OwnTransmission = 8
 
 -- and the place that comes with it
-abbrev pub place_in : EventRead → ℕ
-place_in (EventRead.Is e) = 0
-place_in EventRead.BadLength = 0
-place_in EventRead.UnknownKind = 0
-place_in EventRead.Retired = 0
-place_in (EventRead.BadBody place) = place
+abbrev pub place_in : Refusal → ℕ
+place_in Refusal.NotSound = 0
+place_in (Refusal.Unreadable u) = unreadable_place u
+place_in Refusal.OtherCall = 0
+place_in Refusal.NoRow = 0
+place_in Refusal.NoRoom = 0
+place_in Refusal.OwnTransmission = 0
+
+-- the code's result, for the record that was handed in: a refusal counts 0 bytes and leaves that record
+abbrev pub as_outcome : Call → Result Stepped Refusal → List ℕ → Outcome
+as_outcome c (Ok r) buffer = record { answer = 0; place = 0; call = r.call; count = r.count; buffer = buffer }
+as_outcome c (Err e) buffer = refusal_at (answer_number e) (place_in e) c buffer

@@ -3,34 +3,50 @@ ghost use Rattle.std.specs.Prelude.{◌≡◌};
 ghost use Rattle.callcontrol.specs.Call.{◌⇒◌, fresh_call, is_idle, is_active, is_wait, is_up, is_restoring, transmits, state_number, path_number, may_lack_id, all_stopped, in_range, as_fresh, timers_agree, state_agrees, sound};
 
 // Where the call is. The numbers are those of a host's record.
-#[derive(Clone, Copy)]
+#[derive(Clone, Copy, Debug, PartialEq, Eq)]
 pub enum State {
-    // 0 IDLE: no call.
-    Idle,
-    // 1 MO-CALL-SETUP: the user asked for a call, and it is not connected yet.
-    MoCallSetup,
-    // 2 MT-CALL-SETUP: another party calls, and it is not connected yet.
-    MtCallSetup,
-    // 3 CALL-ACTIVE: the call is connected.
-    CallActive,
-    // 4 WAIT: the network has paused the call.
-    Wait,
-    // 5 CALL-DISCONNECT: this side has ended the call, and the network has not confirmed it.
-    CallDisconnect,
+    // IDLE: no call.
+    Idle = 0,
+    // MO-CALL-SETUP: the user asked for a call, and it is not connected yet.
+    MoCallSetup = 1,
+    // MT-CALL-SETUP: another party calls, and it is not connected yet.
+    MtCallSetup = 2,
+    // CALL-ACTIVE: the call is connected.
+    CallActive = 3,
+    // WAIT: the network has paused the call.
+    Wait = 4,
+    // CALL-DISCONNECT: this side has ended the call, and the network has not confirmed it.
+    CallDisconnect = 5,
 }
 
-// The radio path of a connected call.
-#[derive(Clone, Copy)]
+impl From<State> for u8 {
+    ghost from_gives = { λ state number. number ≡ state_number state };
+
+    fn from(state: State) -> u8 {
+        state as u8
+    }
+}
+
+// The radio path of a connected call, with the numbers of a host's record.
+#[derive(Clone, Copy, Debug, PartialEq, Eq)]
 pub enum Path {
-    // 0 up: the path is there.
-    Up,
-    // 1 broken: the path is lost.
-    Broken,
-    // 2 restoring: a path is there again, and the network is asked to restore the call on it.
-    Restoring,
+    // The path is there.
+    Up = 0,
+    // The path is lost.
+    Broken = 1,
+    // A path is there again, and the network is asked to restore the call on it.
+    Restoring = 2,
 }
 
-#[derive(Clone, Copy)]
+impl From<Path> for u8 {
+    ghost from_gives = { λ path number. number ≡ path_number path };
+
+    fn from(path: Path) -> u8 {
+        path as u8
+    }
+}
+
+#[derive(Clone, Copy, Debug, PartialEq, Eq)]
 pub struct Call {
     pub state: State,
     // The call's identifier, 0 while it has none.
@@ -71,43 +87,14 @@ pub const T310: usize = 5;
 
 pub const T311: usize = 6;
 
-// The states and paths as numbers, those of a host's record.
-
-pub fn state_number(state: State) -> u8
-    ensures { result ≡ state_number state }
-{
-    match state {
-        State::Idle => 0,
-        State::MoCallSetup => 1,
-        State::MtCallSetup => 2,
-        State::CallActive => 3,
-        State::Wait => 4,
-        State::CallDisconnect => 5,
-    }
-}
-
-pub fn path_number(path: Path) -> u8
-    ensures { result ≡ path_number path }
-{
-    match path {
-        Path::Up => 0,
-        Path::Broken => 1,
-        Path::Restoring => 2,
-    }
-}
-
 // Whether a call in this state may have no identifier.
 fn may_lack_id(state: State) -> bool
     ensures { result ≡ may_lack_id state }
 {
-    match state {
-        State::Idle => true,
-        State::MoCallSetup => true,
-        State::MtCallSetup => false,
-        State::CallActive => false,
-        State::Wait => false,
-        State::CallDisconnect => true,
-    }
+    matches!(
+        state,
+        State::Idle | State::MoCallSetup | State::CallDisconnect
+    )
 }
 
 impl Call {
@@ -144,36 +131,31 @@ impl Call {
     pub fn is_idle(self) -> bool
         ensures { result ≡ is_idle self }
     {
-        let state = self.state;
-        state_number(state) == state_number(State::Idle)
+        self.state == State::Idle
     }
 
     fn is_active(self) -> bool
         ensures { result ≡ is_active self }
     {
-        let state = self.state;
-        state_number(state) == state_number(State::CallActive)
+        self.state == State::CallActive
     }
 
     fn is_wait(self) -> bool
         ensures { result ≡ is_wait self }
     {
-        let state = self.state;
-        state_number(state) == state_number(State::Wait)
+        self.state == State::Wait
     }
 
     fn is_up(self) -> bool
         ensures { result ≡ is_up self }
     {
-        let path = self.path;
-        path_number(path) == path_number(Path::Up)
+        self.path == Path::Up
     }
 
     fn is_restoring(self) -> bool
         ensures { result ≡ is_restoring self }
     {
-        let path = self.path;
-        path_number(path) == path_number(Path::Restoring)
+        self.path == Path::Restoring
     }
 
     // The set has the U-plane to transmit.
@@ -186,8 +168,7 @@ impl Call {
     fn all_stopped(self) -> bool
         ensures { result ≡ all_stopped self }
     {
-        let t = self.timers;
-        !t[T301] & !t[T302] & !t[T303] & !t[T306] & !t[T308] & !t[T310] & !t[T311]
+        !self.timers.contains(&true)
     }
 
     fn in_range(self) -> bool

@@ -1,16 +1,16 @@
 // What a row says: a number, and beside it the values that differ from call to call. The number is a sum of the orders below. Each part
 // of a row has a digit of its own (hexadecimal), or a bit for each timer, so that the orders of different parts add up to a sentence of
 // the paper: `STAY + SENT + STOP_303 + START_302 + PROCEED`.
-ghost use Rattle.std.specs.Prelude.{◌≡◌};
-ghost use Rattle.callcontrol.specs.Settle.{none_row, row_of, row_asking, row_naming};
+ghost use Rattle.std.specs.Prelude.{◌≡◌, ◌*◌, ◌/◌, ◌%◌, ◌<◌, ◌≤◌};
+ghost use Rattle.callcontrol.specs.Settle.{row_of};
 
 use crate::call::Call;
 
 // The address stands before the identifier because the compiler copies such a row field by field; the other way round it copies eight
 // bytes at once and takes them apart again, which costs a fifth of the code.
-#[derive(Clone, Copy)]
+#[derive(Clone, Copy, Debug, PartialEq, Eq)]
 pub struct Row {
-    // The sum, 0 where there is no row.
+    // The sum.
     pub orders: u64,
     // What the call holds then.
     pub address: u32,
@@ -22,6 +22,21 @@ pub struct Row {
     // What a message tells beside that: a cause, a grant, how a transmission stands, or the slots that a SETUP request carries.
     pub value: u8,
 }
+
+// Where each part's digit stands in the sum.
+pub(crate) const STATE: u64 = 0x1;
+
+pub(crate) const PATH: u64 = 0x10;
+
+pub(crate) const SENDING: u64 = 0x100;
+
+pub(crate) const PLANE: u64 = 0x1000;
+
+pub(crate) const PDU: u64 = 0x10000;
+
+pub(crate) const USER: u64 = 0x100000;
+
+pub(crate) const EXPIRED: u64 = 0x100000000000;
 
 // The state. Every row has one of these.
 pub const STAY: u64 = 0x1;
@@ -160,61 +175,22 @@ pub const RELEASE: u64 = STOP_ALL
     + UP
     + CALL_DISCONNECT;
 
-impl Row {
-    pub fn none() -> Self
-        ensures { result ≡ none_row }
-    {
-        Row {
-            orders: 0,
-            id: 0,
-            address: 0,
-            mode: 0,
-            asked: 0,
-            code: 0,
-            slots: 0,
-            value: 0,
-        }
-    }
+// What a sum orders of one part, 0 where it orders nothing of it.
+pub(crate) fn part(orders: u64, place: u64) -> u64
+    requires { (0 < place) × (place ≤ 0x100000000000) }
+    ensures { result ≡ orders / place % 16 * place }
+{
+    orders / place % 16 * place
+}
 
-    // A row that stores none of the values.
+impl Row {
+    // A row that stores none of the values: the call keeps what it holds.
     pub(crate) fn of(call: Call, orders: u64, value: u8) -> Self
         ensures { result ≡ row_of call orders value }
     {
         Row {
             orders,
             id: call.id,
-            address: call.address,
-            mode: call.mode,
-            asked: call.asked,
-            code: call.code,
-            slots: call.slots,
-            value,
-        }
-    }
-
-    // A row that stores asked.
-    pub(crate) fn asking(call: Call, orders: u64, asked: u8, value: u8) -> Self
-        ensures { result ≡ row_asking call orders asked value }
-    {
-        Row {
-            orders,
-            id: call.id,
-            address: call.address,
-            mode: call.mode,
-            asked,
-            code: call.code,
-            slots: call.slots,
-            value,
-        }
-    }
-
-    // A row that stores the identifier.
-    pub(crate) fn naming(call: Call, orders: u64, id: u16, value: u8) -> Self
-        ensures { result ≡ row_naming call orders id value }
-    {
-        Row {
-            orders,
-            id,
             address: call.address,
             mode: call.mode,
             asked: call.asked,

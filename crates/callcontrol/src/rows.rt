@@ -1,9 +1,9 @@
 // The steps: for each situation, what each event does. A row is a sum of orders, and what has no row is refused. Beside a row stands its
 // clause of EN 300 392-2, or H for a house choice.
-ghost use Rattle.std.specs.Prelude.{◌≡◌, cond, ◌+◌, ◌≤◌};
+ghost use Rattle.std.specs.Prelude.{◌≡◌, cond, ◌+◌, ◌≤◌, Some, None};
 ghost use Rattle.callcontrol.specs.Call.{transmits};
 ghost use Rattle.callcontrol.specs.Rows.{releasing, released, disconnected, expiry, idle, mo_call_setup, mt_call_setup, demands, ceases, informed, cut, active_expiry, active_up, asks, active_broken, active_restoring, wait, call_disconnect, active, in_state, row_for};
-ghost use Rattle.callcontrol.specs.Settle.{draft_of, none_row, row_asking, RELEASE, RELEASE_INDICATION, plane_granted, plane_or_off, asked_after, restarting, code_after, slots_after};
+ghost use Rattle.callcontrol.specs.Settle.{draft_of, settled, row_asking, RELEASE, RELEASE_INDICATION, plane_granted, plane_or_off, asked_after, restarting, code_after, slots_after};
 
 use crate::call::{Call, Path, State, T301, T302, T303, T306, T308, T310, T311};
 use crate::row::{
@@ -20,38 +20,53 @@ use records::events::Event;
 // What several situations share.
 
 // RELEASE request where the call is known to the network (14.5.1.3.1).
+#[tactic(auto, using(crate::proofs::Settled::releasing_is))]
 fn releasing(call: Call) -> Row
-    ensures { draft_of call result ≡ releasing call }
+    ensures { settled call result ≡ releasing call }
 {
-    Row::asking(call, RELEASE, 0, 1)
+    Row {
+        asked: 0,
+        ..Row::of(call, RELEASE, 1)
+    }
 }
 
 // The network has ended the call (14.5.1.3.3).
+#[tactic(auto, using(crate::proofs::Settled::released_is))]
 fn released(call: Call) -> Row
-    ensures { draft_of call result ≡ released call }
+    ensures { settled call result ≡ released call }
 {
     Row::of(call, ENDED, 3)
 }
 
 // The network ends the call and wants U-RELEASE with the received identifier (14.5.1.3.3).
+#[tactic(auto, using(crate::proofs::Settled::disconnected_is))]
 fn disconnected(id: u16, call: Call) -> Row
-    ensures { draft_of call result ≡ disconnected id call }
+    ensures { settled call result ≡ disconnected id call }
 {
-    Row::naming(call, ENDED + U_RELEASE, id, 3)
+    Row {
+        id, // the received one: the held one may be 0
+        ..Row::of(call, ENDED + U_RELEASE, 3)
+    }
 }
 
 // Expiry of T301, T302, T303, T306 (H) and T310 (14.5.1.3.4), where the timer runs.
-fn timed_out(running: bool, expired: u64, call: Call) -> Row
+fn timed_out(running: bool, expired: u64, call: Call) -> Option<Row>
     requires { expired ≤ 0x700000000000 }
-    ensures { result ≡ cond running (row_asking call (expired + RELEASE + RELEASE_INDICATION) 0 2) none_row }
+    ensures { result ≡ cond running (Some (row_asking call (expired + RELEASE + RELEASE_INDICATION) 0 2)) None }
 {
-    if running {
-        return Row::asking(call, expired + RELEASE + RELEASE_INDICATION, 0, 2);
+    if !running {
+        return None;
     }
-    Row::none()
+    Some(Row {
+        asked: 0,
+        ..Row::of(call, expired + RELEASE + RELEASE_INDICATION, 2)
+    })
 }
 
-fn expiry(timer: u16, call: Call) -> Row
+#[tactic(auto, using(crate::proofs::Settled::timed, crate::proofs::Settled::timed_out_301_is, crate::proofs::Settled::timed_out_302_is, crate::proofs::Settled::timed_out_303_is, crate::proofs::Settled::timed_out_306_is, crate::proofs::Settled::timed_out_310_is), unfolding(crate::specs::Rows::expiry, crate::specs::Rows::timed_out))]
+// Inlined, since each situation would else copy its row through the stack: 114 bytes more of it.
+#[inline(always)]
+fn expiry(timer: u16, call: Call) -> Option<Row>
     ensures { draft_of call result ≡ expiry timer call }
 {
     let timers = call.timers;
@@ -61,11 +76,12 @@ fn expiry(timer: u16, call: Call) -> Row
         303 => timed_out(timers[T303], EXPIRED_303, call),
         306 => timed_out(timers[T306], EXPIRED_306, call),
         310 => timed_out(timers[T310], EXPIRED_310, call),
-        _ => Row::none(),
+        _ => None,
     }
 }
 
 // Grant rule G: 0 gives plane 1, or 3 in duplex; 3 gives 2; 1 and 2 give no CONFIGURE.
+#[tactic(auto, unfolding(crate::specs::Settle::plane_granted))]
 pub fn plane_granted(grant: u8, mode: u8) -> u64
     ensures value { result ≡ plane_granted grant mode }
     ensures upper_bound { result ≤ 0x3000 }
@@ -83,6 +99,7 @@ pub fn plane_granted(grant: u8, mode: u8) -> u64
 }
 
 // G, with off for 1 and 2.
+#[tactic(auto, unfolding(crate::specs::Settle::plane_or_off))]
 pub fn plane_or_off(grant: u8, mode: u8) -> u64
     ensures value { result ≡ plane_or_off grant mode }
     ensures upper_bound { result ≤ 0x4000 }
@@ -97,6 +114,7 @@ pub fn plane_or_off(grant: u8, mode: u8) -> u64
 }
 
 // 0 and 1 clear asked; 2 and 3 keep it.
+#[tactic(auto, unfolding(crate::specs::Settle::asked_after))]
 pub fn asked_after(grant: u8, asked: u8) -> u8
     ensures { result ≡ asked_after grant asked }
 {
@@ -107,6 +125,7 @@ pub fn asked_after(grant: u8, asked: u8) -> u8
 }
 
 // If reset is 1, T310 starts.
+#[tactic(auto, unfolding(crate::specs::Settle::restarting))]
 pub fn restarting(reset: u8) -> u64
     ensures value { result ≡ restarting reset }
     ensures upper_bound { result ≤ 0x20000000000 }
@@ -118,6 +137,7 @@ pub fn restarting(reset: u8) -> u64
 }
 
 // T310's code then: the received one, or the held one if it is 16 or T310 is left alone.
+#[tactic(auto, unfolding(crate::specs::Settle::code_after))]
 pub fn code_after(reset: u8, code: u8, held: u8) -> u8
     ensures { result ≡ code_after reset code held }
 {
@@ -131,6 +151,7 @@ pub fn code_after(reset: u8, code: u8, held: u8) -> u8
 }
 
 // The slots then: the carried ones, or the held ones where the body has none.
+#[tactic(auto, unfolding(crate::specs::Settle::slots_after))]
 pub fn slots_after(slots: u8, held: u8) -> u8
     ensures { result ≡ slots_after slots held }
 {
@@ -140,7 +161,8 @@ pub fn slots_after(slots: u8, held: u8) -> u8
     slots
 }
 
-fn idle(call: Call, event: Event) -> Row
+#[tactic(auto, using(crate::proofs::Settled::setup_request_is, crate::proofs::Settled::d_setup_is), unfolding(crate::specs::Rows::idle))]
+fn idle(call: Call, event: Event) -> Option<Row>
     ensures { draft_of call result ≡ idle call event }
 {
     match event {
@@ -150,53 +172,46 @@ fn idle(call: Call, event: Event) -> Row
             mode,
             ask,
             slots,
-        } => Row {
-            orders: MO_CALL_SETUP + U_SETUP + START_303,
-            id: call.id,
+        } => Some(Row {
             address,
             mode,
             asked: ask,
-            code: call.code,
             slots: slots_after(slots, call.slots),
-            value: slots,
-        },
+            ..Row::of(call, MO_CALL_SETUP + U_SETUP + START_303, slots)
+        }),
         // 14.5.1.1.1
-        Event::DSetup { id, address, mode } => Row {
-            orders: MT_CALL_SETUP + SETUP_INDICATION,
+        Event::DSetup { id, address, mode } => Some(Row {
             id,
             address,
             mode,
-            asked: call.asked,
-            code: call.code,
-            slots: call.slots,
-            value: 0,
-        },
-        _ => Row::none(),
+            ..Row::of(call, MT_CALL_SETUP + SETUP_INDICATION, 0)
+        }),
+        _ => None,
     }
 }
 
-fn mo_call_setup(call: Call, event: Event) -> Row
+#[tactic(auto, using(crate::proofs::Settled::alert_is, crate::proofs::Settled::cancelled_is, crate::proofs::Settled::connected_is, crate::proofs::Settled::failed_is, crate::proofs::Settled::proceeding_is, crate::proofs::Settled::reported_is), unfolding(crate::specs::Rows::mo_call_setup))]
+fn mo_call_setup(call: Call, event: Event) -> Option<Row>
     ensures { draft_of call result ≡ mo_call_setup call event }
 {
     match event {
         // 14.5.1.3.1
         Event::ReleaseRequest => {
             if call.sent == 0 {
-                return Row::of(call, CANCEL + STOP_303 + RELEASE_CONFIRM + OVER, 0);
+                return Some(Row::of(call, CANCEL + STOP_303 + RELEASE_CONFIRM + OVER, 0));
             }
-            releasing(call)
+            Some(releasing(call))
         }
         // 14.5.1.1.2: an identifier came, so no local cancel from here on.
-        Event::DCallProceeding { id } => {
-            Row::naming(call, STAY + SENT + STOP_303 + START_302 + PROCEED, id, 0)
-        }
-        // 14.5.1.1.2
-        Event::DAlert { id } => Row::naming(
-            call,
-            STAY + SENT + STOP_303 + START_302 + ALERT,
+        Event::DCallProceeding { id } => Some(Row {
             id,
-            0,
-        ),
+            ..Row::of(call, STAY + SENT + STOP_303 + START_302 + PROCEED, 0)
+        }),
+        // 14.5.1.1.2
+        Event::DAlert { id } => Some(Row {
+            id,
+            ..Row::of(call, STAY + SENT + STOP_303 + START_302 + ALERT, 0)
+        }),
         // 14.5.1.1.2
         Event::DConnect {
             id,
@@ -204,44 +219,40 @@ fn mo_call_setup(call: Call, event: Event) -> Row
             mode,
             code,
             slots,
-        } => Row {
-            orders: CALL_ACTIVE
-                + SENT
-                + STOP_302
-                + STOP_303
-                + START_310
-                + SETUP_CONFIRM
-                + plane_or_off(grant, mode),
-            id,
-            address: call.address,
-            mode,
-            asked: asked_after(grant, call.asked),
-            code,
-            slots: slots_after(slots, call.slots),
-            value: grant,
-        },
-        Event::DDisconnect { id } => disconnected(id, call),
-        Event::DRelease { id: _ } => released(call),
+        } => {
+            let orders = CALL_ACTIVE + SENT + STOP_302 + STOP_303 + START_310 + SETUP_CONFIRM;
+            Some(Row {
+                id,
+                mode,
+                asked: asked_after(grant, call.asked),
+                code,
+                slots: slots_after(slots, call.slots),
+                ..Row::of(call, orders + plane_or_off(grant, mode), grant)
+            })
+        }
+        Event::DDisconnect { id } => Some(disconnected(id, call)),
+        Event::DRelease { id: _ } => Some(released(call)),
         // 14.5.1.1.2
         Event::ReportSent => {
             if call.sent == 0 {
-                return Row::of(call, STAY + SENT, 0);
+                return Some(Row::of(call, STAY + SENT, 0));
             }
-            Row::none()
+            None
         }
         // H
         Event::ReportFailed => {
             if call.sent == 0 {
-                return Row::of(call, STOP_303 + RELEASE_INDICATION + OVER, 4);
+                return Some(Row::of(call, STOP_303 + RELEASE_INDICATION + OVER, 4));
             }
-            Row::none()
+            None
         }
         Event::Expiry { timer } => expiry(timer, call),
-        _ => Row::none(),
+        _ => None,
     }
 }
 
-fn mt_call_setup(call: Call, event: Event) -> Row
+#[tactic(auto, using(crate::proofs::Settled::responded_is, crate::proofs::Settled::acknowledged_is), unfolding(crate::specs::Rows::mt_call_setup))]
+fn mt_call_setup(call: Call, event: Event) -> Option<Row>
     ensures { draft_of call result ≡ mt_call_setup call event }
 {
     let timers = call.timers;
@@ -249,92 +260,89 @@ fn mt_call_setup(call: Call, event: Event) -> Row
         // 14.5.1.1.1
         Event::SetupResponse => {
             if timers[T301] {
-                return Row::none();
+                return None;
             }
-            Row::of(call, STAY + U_CONNECT + START_301, 0)
+            Some(Row::of(call, STAY + U_CONNECT + START_301, 0))
         }
-        Event::ReleaseRequest => releasing(call),
+        Event::ReleaseRequest => Some(releasing(call)),
         // 14.5.1.1.1
         Event::DConnectAcknowledge { id: _, grant, code } => {
             if timers[T301] {
-                return Row {
-                    orders: CALL_ACTIVE
-                        + STOP_301
-                        + START_310
-                        + COMPLETE
-                        + plane_or_off(grant, call.mode),
-                    id: call.id,
-                    address: call.address,
-                    mode: call.mode,
+                let orders = CALL_ACTIVE + STOP_301 + START_310 + COMPLETE;
+                return Some(Row {
                     asked: asked_after(grant, call.asked),
                     code,
-                    slots: call.slots,
-                    value: grant,
-                };
+                    ..Row::of(call, orders + plane_or_off(grant, call.mode), grant)
+                });
             }
-            Row::none()
+            None
         }
-        Event::DDisconnect { id } => disconnected(id, call),
-        Event::DRelease { id: _ } => released(call),
+        Event::DDisconnect { id } => Some(disconnected(id, call)),
+        Event::DRelease { id: _ } => Some(released(call)),
         Event::Expiry { timer } => expiry(timer, call),
-        _ => Row::none(),
+        _ => None,
     }
 }
 
 // The user wants to transmit, with path up (14.5.1.2.1).
-fn demands(call: Call) -> Row
+#[tactic(auto, using(crate::proofs::Settled::demanded_is), unfolding(crate::specs::Rows::demands))]
+fn demands(call: Call) -> Option<Row>
     ensures { draft_of call result ≡ demands call }
 {
     if call.asked != 0 {
-        return Row::none();
+        return None;
     }
     if call.plane == 2 {
-        return Row::asking(call, STAY + U_TX_DEMAND, 1, 0);
+        return Some(Row {
+            asked: 1,
+            ..Row::of(call, STAY + U_TX_DEMAND, 0)
+        });
     }
     if call.plane == 4 {
-        return Row::asking(call, STAY + U_TX_DEMAND, 1, 0);
+        return Some(Row {
+            asked: 1,
+            ..Row::of(call, STAY + U_TX_DEMAND, 0)
+        });
     }
-    Row::none()
+    None
 }
 
 // The user stops, with path up (14.5.1.2.1).
-fn ceases(call: Call) -> Row
+#[tactic(auto, using(crate::proofs::Settled::ceased_is, crate::proofs::Settled::withdrawn_is), unfolding(crate::specs::Rows::ceases))]
+fn ceases(call: Call) -> Option<Row>
     ensures { draft_of call result ≡ ceases call }
 {
     if call.plane == 1 {
-        return Row::of(call, STAY + U_TX_CEASED + PLANE_OFF, 0);
+        return Some(Row::of(call, STAY + U_TX_CEASED + PLANE_OFF, 0));
     }
     if call.asked == 1 {
-        return Row::asking(call, STAY + U_TX_CEASED, 0, 0);
+        return Some(Row {
+            asked: 0,
+            ..Row::of(call, STAY + U_TX_CEASED, 0)
+        });
     }
-    Row::none()
+    None
 }
 
 // D-INFO with path up (14.5.1.2.3).
+#[tactic(auto, using(crate::proofs::Settled::informed_same_is, crate::proofs::Settled::informed_other_is))]
 fn informed(call: Call, reset: u8, code: u8, mode: u8, slots: u8) -> Row
-    ensures { draft_of call result ≡ informed reset code mode slots call }
+    ensures { settled call result ≡ informed reset code mode slots call }
 {
-    if mode == call.mode {
-        return Row {
-            orders: STAY + SAME_PLANE + MODIFY_INDICATION + restarting(reset),
-            id: call.id,
-            address: call.address,
-            mode,
-            asked: call.asked,
-            code: code_after(reset, code, call.code),
-            slots: slots_after(slots, call.slots),
-            value: 0,
-        };
-    }
+    let orders = if mode == call.mode {
+        SAME_PLANE
+    } else {
+        PLANE_OFF
+    };
     Row {
-        orders: STAY + PLANE_OFF + MODIFY_INDICATION + restarting(reset),
-        id: call.id,
-        address: call.address,
         mode,
-        asked: call.asked,
         code: code_after(reset, code, call.code),
         slots: slots_after(slots, call.slots),
-        value: 0,
+        ..Row::of(
+            call,
+            STAY + orders + MODIFY_INDICATION + restarting(reset),
+            0,
+        )
     }
 }
 
@@ -349,31 +357,37 @@ pub fn asked_after_cut(call: Call) -> u8
 }
 
 // BREAK with path up (14.5.1.2.4).
+#[tactic(auto, using(crate::proofs::Settled::cut_is))]
 fn cut(call: Call) -> Row
-    ensures { draft_of call result ≡ cut call }
+    ensures { settled call result ≡ cut call }
 {
-    Row::asking(call, STAY + BROKEN + PLANE_OFF, asked_after_cut(call), 0)
+    Row {
+        asked: asked_after_cut(call),
+        ..Row::of(call, STAY + BROKEN + PLANE_OFF, 0)
+    }
 }
 
 // Expiry with path up: T311 ends the transmission (14.5.1.2.1).
-fn active_expiry(timer: u16, call: Call) -> Row
+#[tactic(auto, using(crate::proofs::Settled::spoken_out_is), unfolding(crate::specs::Rows::active_expiry))]
+fn active_expiry(timer: u16, call: Call) -> Option<Row>
     ensures { draft_of call result ≡ active_expiry timer call }
 {
     let timers = call.timers;
     if timer == 311 {
         if timers[T311] {
-            return Row::of(call, EXPIRED_311 + STAY + U_TX_CEASED + PLANE_OFF, 0);
+            return Some(Row::of(call, EXPIRED_311 + STAY + U_TX_CEASED + PLANE_OFF, 0));
         }
-        return Row::none();
+        return None;
     }
     expiry(timer, call)
 }
 
-fn active_up(call: Call, event: Event) -> Row
+#[tactic(auto, using(crate::proofs::Settled::granted_is, crate::proofs::Settled::interrupted_for_is, crate::proofs::Settled::interrupted_is, crate::proofs::Settled::paused_is, crate::proofs::Settled::tx_ceased_is), unfolding(crate::specs::Rows::active_up))]
+fn active_up(call: Call, event: Event) -> Option<Row>
     ensures { draft_of call result ≡ active_up call event }
 {
     match event {
-        Event::ReleaseRequest => releasing(call),
+        Event::ReleaseRequest => Some(releasing(call)),
         Event::TxRequest { go } => {
             if go == 1 {
                 return demands(call);
@@ -387,38 +401,37 @@ fn active_up(call: Call, event: Event) -> Row
             code,
             mode,
             slots,
-        } => informed(call, reset, code, mode, slots),
+        } => Some(informed(call, reset, code, mode, slots)),
         // 14.5.1.2.1
-        Event::DTxGranted { id: _, grant } => Row {
-            orders: STAY + TX_INDICATION + plane_granted(grant, call.mode),
-            id: call.id,
-            address: call.address,
-            mode: call.mode,
+        Event::DTxGranted { id: _, grant } => Some(Row {
             asked: asked_after(grant, call.asked),
-            code: call.code,
-            slots: call.slots,
-            value: grant,
-        },
+            ..Row::of(
+                call,
+                STAY + TX_INDICATION + plane_granted(grant, call.mode),
+                grant,
+            )
+        }),
         // 14.5.1.2.1
-        Event::DTxCeased { id: _ } => Row::of(call, STAY + PLANE_OFF + TX_INDICATION, 4),
+        Event::DTxCeased { id: _ } => Some(Row::of(call, STAY + PLANE_OFF + TX_INDICATION, 4)),
         // 14.5.1.2.1
         Event::DTxInterrupt { id: _, grant } => {
             if grant == 3 {
-                return Row::of(call, STAY + PLANE_2 + TX_INDICATION, 5);
+                return Some(Row::of(call, STAY + PLANE_2 + TX_INDICATION, 5));
             }
-            Row::of(call, STAY + PLANE_OFF + TX_INDICATION, 5)
+            Some(Row::of(call, STAY + PLANE_OFF + TX_INDICATION, 5))
         }
         // 14.5.1.2.1
-        Event::DTxWait { id: _ } => Row::of(call, WAIT + PLANE_OFF + TX_INDICATION, 6),
-        Event::DDisconnect { id } => disconnected(id, call),
-        Event::DRelease { id: _ } => released(call),
-        Event::Break => cut(call),
+        Event::DTxWait { id: _ } => Some(Row::of(call, WAIT + PLANE_OFF + TX_INDICATION, 6)),
+        Event::DDisconnect { id } => Some(disconnected(id, call)),
+        Event::DRelease { id: _ } => Some(released(call)),
+        Event::Break => Some(cut(call)),
         Event::Expiry { timer } => active_expiry(timer, call),
-        _ => Row::none(),
+        _ => None,
     }
 }
 
 // What a restoration asks for: 1 if asked or duplex.
+#[tactic(auto, unfolding(crate::specs::Rows::asks))]
 pub fn asks(call: Call) -> u8
     ensures { result ≡ asks call }
 {
@@ -431,141 +444,144 @@ pub fn asks(call: Call) -> u8
     0
 }
 
-fn active_broken(call: Call, event: Event) -> Row
+#[tactic(auto, using(crate::proofs::Settled::reasked_is, crate::proofs::Settled::resumed_is), unfolding(crate::specs::Rows::active_broken))]
+fn active_broken(call: Call, event: Event) -> Option<Row>
     ensures { draft_of call result ≡ active_broken call event }
 {
     match event {
-        Event::ReleaseRequest => releasing(call),
+        Event::ReleaseRequest => Some(releasing(call)),
         // 14.5.1.2.4
         Event::TxRequest { go } => {
             if call.asked == go {
-                return Row::none();
+                return None;
             }
-            Row::asking(call, STAY, go, 0)
+            Some(Row {
+                asked: go,
+                ..Row::of(call, STAY, 0)
+            })
         }
-        Event::DDisconnect { id } => disconnected(id, call),
-        Event::DRelease { id: _ } => released(call),
+        Event::DDisconnect { id } => Some(disconnected(id, call)),
+        Event::DRelease { id: _ } => Some(released(call)),
         // 14.5.1.2.4
-        Event::Resume => Row::asking(
-            call,
-            STAY + RESTORING + U_CALL_RESTORE + START_306,
-            asks(call),
-            0,
-        ),
+        Event::Resume => Some(Row {
+            asked: asks(call),
+            ..Row::of(call, STAY + RESTORING + U_CALL_RESTORE + START_306, 0)
+        }),
         Event::Expiry { timer } => expiry(timer, call),
-        _ => Row::none(),
+        _ => None,
     }
 }
 
-fn active_restoring(call: Call, event: Event) -> Row
+#[tactic(auto, using(crate::proofs::Settled::restored_is, crate::proofs::Settled::broken_again_is), unfolding(crate::specs::Rows::active_restoring))]
+fn active_restoring(call: Call, event: Event) -> Option<Row>
     ensures { draft_of call result ≡ active_restoring call event }
 {
     match event {
-        Event::ReleaseRequest => releasing(call),
+        Event::ReleaseRequest => Some(releasing(call)),
         // 14.5.1.2.4
         Event::DCallRestore {
             id: _,
             grant,
             reset,
             code,
-        } => Row {
-            orders: STAY
-                + STOP_306
-                + UP
-                + TX_INDICATION
-                + plane_granted(grant, call.mode)
-                + restarting(reset), // r 0 leaves T310 as it is
-            id: call.id,
-            address: call.address,
-            mode: call.mode, // the call that was cut
-            asked: asked_after(grant, call.asked),
-            code: code_after(reset, code, call.code),
-            slots: call.slots,
-            value: grant,
-        },
-        Event::DDisconnect { id } => disconnected(id, call),
-        Event::DRelease { id: _ } => released(call),
+        } => {
+            let plane = plane_granted(grant, call.mode);
+            let timer = restarting(reset); // r 0 leaves T310 as it is
+            Some(Row {
+                // The call that was cut keeps its mode and its slots.
+                asked: asked_after(grant, call.asked),
+                code: code_after(reset, code, call.code),
+                ..Row::of(
+                    call,
+                    STAY + STOP_306 + UP + TX_INDICATION + plane + timer,
+                    grant,
+                )
+            })
+        }
+        Event::DDisconnect { id } => Some(disconnected(id, call)),
+        Event::DRelease { id: _ } => Some(released(call)),
         // 14.5.1.2.4
-        Event::Break => Row::of(call, STAY + STOP_306 + BROKEN + PLANE_OFF, 0),
+        Event::Break => Some(Row::of(call, STAY + STOP_306 + BROKEN + PLANE_OFF, 0)),
         Event::Expiry { timer } => expiry(timer, call),
-        _ => Row::none(),
+        _ => None,
     }
 }
 
-fn wait(call: Call, event: Event) -> Row
+#[tactic(auto, using(crate::proofs::Settled::continued_is, crate::proofs::Settled::continued_off_is, crate::proofs::Settled::pause_cut_is), unfolding(crate::specs::Rows::wait))]
+fn wait(call: Call, event: Event) -> Option<Row>
     ensures { draft_of call result ≡ wait call event }
 {
     match event {
-        Event::ReleaseRequest => releasing(call),
+        Event::ReleaseRequest => Some(releasing(call)),
         // 14.5.1.2.1
         Event::DTxContinue { id: _, go } => {
             if go == 1 {
-                return Row::of(call, CALL_ACTIVE + KEPT_PLANE + TX_INDICATION, 7);
+                return Some(Row::of(call, CALL_ACTIVE + KEPT_PLANE + TX_INDICATION, 7));
             }
-            Row::of(call, CALL_ACTIVE + PLANE_OFF + TX_INDICATION, 8)
+            Some(Row::of(call, CALL_ACTIVE + PLANE_OFF + TX_INDICATION, 8))
         }
-        Event::DDisconnect { id } => disconnected(id, call),
-        Event::DRelease { id: _ } => released(call),
+        Event::DDisconnect { id } => Some(disconnected(id, call)),
+        Event::DRelease { id: _ } => Some(released(call)),
         // 14.5.1.2.4: the permission was lost with the pause, so asked stays.
-        Event::Break => Row::asking(
-            call,
-            CALL_ACTIVE + BROKEN + PLANE_OFF + TX_INDICATION,
-            call.asked,
-            8,
-        ),
+        Event::Break => Some(Row::of(call, CALL_ACTIVE + BROKEN + PLANE_OFF + TX_INDICATION, 8)),
         Event::Expiry { timer } => expiry(timer, call),
-        _ => Row::none(),
+        _ => None,
     }
 }
 
-fn call_disconnect(call: Call, event: Event) -> Row
+#[tactic(auto, using(crate::proofs::Settled::disconnected_unsent_is, crate::proofs::Settled::released_unsent_is, crate::proofs::Settled::confirmed_is, crate::proofs::Settled::confirmed_late_is, crate::proofs::Settled::reported_is), unfolding(crate::specs::Rows::call_disconnect))]
+fn call_disconnect(call: Call, event: Event) -> Option<Row>
     ensures { draft_of call result ≡ call_disconnect call event }
 {
     match event {
         // 14.5.1.3.5
         Event::DDisconnect { id } => {
             if call.sent == 0 {
-                return Row::naming(call, CANCEL + ENDED + U_RELEASE, id, 3);
+                return Some(Row {
+                    id,
+                    ..Row::of(call, CANCEL + ENDED + U_RELEASE, 3)
+                });
             }
-            disconnected(id, call)
+            Some(disconnected(id, call))
         }
         // 14.5.1.3.5
         Event::DRelease { id: _ } => {
             if call.sent == 0 {
-                return Row::of(call, CANCEL + ENDED, 3);
+                return Some(Row::of(call, CANCEL + ENDED, 3));
             }
-            Row::of(call, CONFIRMED, 0)
+            Some(Row::of(call, CONFIRMED, 0))
         }
         // 14.5.1.3.1
         Event::ReportSent => {
             if call.sent == 0 {
-                return Row::of(call, STAY + SENT, 0);
+                return Some(Row::of(call, STAY + SENT, 0));
             }
-            Row::none()
+            None
         }
         // 14.5.1.3.1
         Event::ReportFailed => {
             if call.sent == 0 {
-                return Row::of(call, CONFIRMED, 0);
+                return Some(Row::of(call, CONFIRMED, 0));
             }
-            Row::none()
+            None
         }
         // 14.5.1.3.4
         Event::Expiry { timer } => {
             let timers = call.timers;
             if timer == 308 {
                 if timers[T308] {
-                    return Row::of(call, EXPIRED_308 + CONFIRMED, 0);
+                    return Some(Row::of(call, EXPIRED_308 + CONFIRMED, 0));
                 }
-                return Row::none();
+                return None;
             }
-            Row::none()
+            None
         }
-        _ => Row::none(),
+        _ => None,
     }
 }
 
-fn active(path: Path, call: Call, event: Event) -> Row
+#[tactic(auto, unfolding(crate::specs::Rows::active))]
+fn active(path: Path, call: Call, event: Event) -> Option<Row>
     ensures { draft_of call result ≡ active path call event }
 {
     match path {
@@ -575,7 +591,8 @@ fn active(path: Path, call: Call, event: Event) -> Row
     }
 }
 
-fn in_state(state: State, call: Call, event: Event) -> Row
+#[tactic(auto, unfolding(crate::specs::Rows::in_state))]
+fn in_state(state: State, call: Call, event: Event) -> Option<Row>
     ensures { draft_of call result ≡ in_state state call event }
 {
     let path = call.path;
@@ -590,7 +607,8 @@ fn in_state(state: State, call: Call, event: Event) -> Row
 }
 
 // What an event does to a call.
-pub fn row_for(call: Call, event: Event) -> Row
+#[tactic(auto, unfolding(crate::specs::Rows::row_for))]
+pub fn row_for(call: Call, event: Event) -> Option<Row>
     ensures { draft_of call result ≡ row_for call event }
 {
     let state = call.state;

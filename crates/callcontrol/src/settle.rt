@@ -1,16 +1,20 @@
-// A row's orders carried out: its number taken apart, digit by digit, into the draft that it stands for. Each rule that the paper
+// A row's orders carried out: its number taken apart, part by part, into the draft that it stands for. Each rule that the paper
 // states once lives in one function here.
-ghost use Rattle.std.specs.Prelude.{◌≡◌, ◌<◌};
-ghost use Rattle.callcontrol.specs.Settle.{has, timing, expire_timer, stop_timer, start_timer, stop_if, start_if, limit_timer, limit_if, expired_by, ordered_by, plane_timer, timing_by, configure_by, plane_by, state_by, kept_by, path_by, sent_by, next_by, settled, as_draft};
+
+ghost use Rattle.std.specs.Prelude.{◌≡◌, ◌<◌, ◌/◌, ◌%◌};
+ghost use Rattle.callcontrol.specs.Settle.{has, timing, expire_timer, stop_timer, start_timer, stop_if, start_if, limit_timer, limit_if, expired_by, ordered_by, plane_timer, timing_by, configure_by, plane_by, state_by, kept_by, path_by, sent_by, next_by, settled, as_draft, EXPIRED_301, PLANE_1, UNSENT, UP};
 
 use crate::call::{Call, Path, State, T301, T302, T303, T306, T308, T310, T311};
 use crate::draft::Drafted;
 use crate::row::{
-    EXPIRED_301, OVER, PLANE_1, Row, START_301, START_302, START_303, START_306, START_308,
-    START_310, STOP_301, STOP_302, STOP_303, STOP_306, STOP_308, STOP_310, STOP_311, UNSENT, UP,
+    BROKEN, CALL_ACTIVE, CALL_DISCONNECT, EXPIRED, EXPIRED_301, EXPIRED_302, EXPIRED_303,
+    EXPIRED_306, EXPIRED_308, EXPIRED_310, EXPIRED_311, KEPT_PLANE, MO_CALL_SETUP, MT_CALL_SETUP,
+    OVER, PATH, PLANE, RESTORING, Row, SAME_PLANE, SENDING, SENT, START_301, START_310, STATE,
+    STAY, STOP_301, UNSENT, UP, WAIT, part,
 };
 
 // Whether an order of one bit is in the sum.
+#[tactic(auto, unfolding(crate::specs::Settle::has))]
 pub(crate) fn has(orders: u64, bit: u64) -> bool
     requires { 0 < bit }
     ensures { result ≡ has orders bit }
@@ -18,8 +22,9 @@ pub(crate) fn has(orders: u64, bit: u64) -> bool
     orders / bit % 2 == 1
 }
 
-// The timers that run, and the orders to stop and to start some.
-#[derive(Clone, Copy)]
+// The timers that run, and the orders to stop and to start some. A method takes the arrays out and puts them back: written in place
+// they stay in memory, and the step takes 72 bytes of stack more, above what tests/tests/step_stays.rs allows.
+#[derive(Clone, Copy, Debug, PartialEq, Eq)]
 pub struct Timing {
     pub running: [bool; 7],
     pub stops: [bool; 7],
@@ -27,6 +32,9 @@ pub struct Timing {
 }
 
 impl Timing {
+    // A call of its own: written out into its caller it makes the step 983 bytes longer and takes 16 bytes of stack more.
+    #[tactic(auto, unfolding(crate::specs::Settle::timing))]
+    #[inline(never)]
     fn new(running: [bool; 7]) -> Self
         ensures { result ≡ timing running }
     {
@@ -38,6 +46,7 @@ impl Timing {
     }
 
     // An expired timer gets no STOP.
+    #[tactic(auto, unfolding(crate::specs::Settle::expire_timer))]
     fn expire(mut self, k: usize) -> Self
         requires { k < 7 }
         ensures { result ≡ expire_timer k self }
@@ -49,6 +58,7 @@ impl Timing {
     }
 
     // STOP is written only for a running timer.
+    #[tactic(auto, unfolding(crate::specs::Settle::stop_timer))]
     fn stop(mut self, k: usize) -> Self
         requires { k < 7 }
         ensures { result ≡ stop_timer k self }
@@ -65,6 +75,7 @@ impl Timing {
     }
 
     // Starting a running timer writes START only, also in a row that says stop all.
+    #[tactic(auto, unfolding(crate::specs::Settle::start_timer))]
     fn start(mut self, k: usize) -> Self
         requires { k < 7 }
         ensures { result ≡ start_timer k self }
@@ -81,6 +92,7 @@ impl Timing {
         self
     }
 
+    #[tactic(auto, unfolding(crate::specs::Settle::stop_if))]
     fn stop_if(self, ordered: bool, k: usize) -> Self
         requires { k < 7 }
         ensures { result ≡ stop_if ordered k self }
@@ -88,6 +100,7 @@ impl Timing {
         if ordered { self.stop(k) } else { self }
     }
 
+    #[tactic(auto, unfolding(crate::specs::Settle::start_if))]
     fn start_if(self, ordered: bool, k: usize) -> Self
         requires { k < 7 }
         ensures { result ≡ start_if ordered k self }
@@ -96,6 +109,7 @@ impl Timing {
     }
 
     // T310 with the stored code: it runs then, and START is written, unless the code is 0, which is no limit.
+    #[tactic(auto, unfolding(crate::specs::Settle::limit_timer))]
     fn limit(mut self, code: u8) -> Self
         ensures { result ≡ limit_timer code self }
     {
@@ -113,23 +127,25 @@ impl Timing {
         self
     }
 
+    #[tactic(auto, unfolding(crate::specs::Settle::limit_if))]
     fn limit_if(self, ordered: bool, code: u8) -> Self
         ensures { result ≡ limit_if ordered code self }
     {
         if ordered { self.limit(code) } else { self }
     }
 
-    fn expired_by(self, digit: u64) -> Self
-        ensures { result ≡ expired_by digit self }
+    #[tactic(auto, unfolding(crate::specs::Settle::expired_by))]
+    fn expired_by(self, orders: u64) -> Self
+        ensures { result ≡ expired_by (orders / EXPIRED_301 % 16) self }
     {
-        match digit {
-            1 => self.expire(T301),
-            2 => self.expire(T302),
-            3 => self.expire(T303),
-            4 => self.expire(T306),
-            5 => self.expire(T308),
-            6 => self.expire(T310),
-            7 => self.expire(T311),
+        match part(orders, EXPIRED) {
+            EXPIRED_301 => self.expire(T301),
+            EXPIRED_302 => self.expire(T302),
+            EXPIRED_303 => self.expire(T303),
+            EXPIRED_306 => self.expire(T306),
+            EXPIRED_308 => self.expire(T308),
+            EXPIRED_310 => self.expire(T310),
+            EXPIRED_311 => self.expire(T311),
             _ => self,
         }
     }
@@ -141,138 +157,134 @@ impl Timing {
         if orders / STOP_301 % 0x10000 == 0 {
             return self;
         }
-        self.stop_if(has(orders, STOP_301), T301)
-            .stop_if(has(orders, STOP_302), T302)
-            .stop_if(has(orders, STOP_303), T303)
-            .stop_if(has(orders, STOP_306), T306)
-            .stop_if(has(orders, STOP_308), T308)
-            .stop_if(has(orders, STOP_310), T310)
-            .stop_if(has(orders, STOP_311), T311)
-            .start_if(has(orders, START_301), T301)
-            .start_if(has(orders, START_302), T302)
-            .start_if(has(orders, START_303), T303)
-            .start_if(has(orders, START_306), T306)
-            .start_if(has(orders, START_308), T308)
-            .limit_if(has(orders, START_310), code)
+        let mut timing = self;
+        for k in 0..7 {
+            timing = timing.stop_if(has(orders, STOP_301 << k), k);
+        }
+        for k in 0..5 {
+            timing = timing.start_if(has(orders, START_301 << k), k);
+        }
+        timing.limit_if(has(orders, START_310), code)
     }
 
     // Plane 1 starts T311, another plane stops it; the present plane told once more leaves it as it is.
-    fn with_plane(self, digit: u64, configure: u8) -> Self
-        ensures { result ≡ plane_timer digit configure self }
+    #[tactic(auto, unfolding(crate::specs::Settle::plane_timer))]
+    fn with_plane(self, orders: u64, configure: u8) -> Self
+        ensures { result ≡ plane_timer (orders / PLANE_1 % 16) configure self }
     {
-        if digit == 0 {
-            return self;
+        match part(orders, PLANE) {
+            0 | SAME_PLANE => self,
+            _ if configure == 1 => self.start(T311),
+            _ => self.stop(T311),
         }
-        if digit == 5 {
-            return self;
-        }
-        if configure == 1 {
-            return self.start(T311);
-        }
-        self.stop(T311)
     }
 }
 
+#[tactic(auto, unfolding(crate::specs::Settle::timing_by))]
 pub(crate) fn timing_by(orders: u64, code: u8, timers: [bool; 7], configure: u8) -> Timing
     ensures { result ≡ timing_by orders code timers configure }
 {
     Timing::new(timers)
-        .expired_by(orders / EXPIRED_301 % 16)
+        .expired_by(orders)
         .ordered_by(orders, code)
-        .with_plane(orders / PLANE_1 % 16, configure)
+        .with_plane(orders, configure)
 }
 
 // The plane that CONFIGURE tells, 0 for none.
-fn configure_by(digit: u64, call: Call) -> u8
-    requires { digit < 16 }
-    ensures { result ≡ configure_by digit call }
+#[tactic(auto, unfolding(crate::specs::Settle::configure_by))]
+fn configure_by(orders: u64, call: Call) -> u8
+    ensures { result ≡ configure_by (orders / PLANE_1 % 16) call }
 {
-    if digit == 5 {
-        return call.plane;
+    match part(orders, PLANE) {
+        SAME_PLANE => call.plane,
+        KEPT_PLANE => call.kept,
+        _ => (orders / PLANE % 16) as u8,
     }
-    if digit == 6 {
-        return call.kept;
-    }
-    digit as u8
 }
 
 // The plane then.
-fn plane_by(digit: u64, configure: u8, held: u8) -> u8
-    ensures { result ≡ plane_by digit configure held }
+#[tactic(auto, unfolding(crate::specs::Settle::plane_by))]
+fn plane_by(orders: u64, configure: u8, held: u8) -> u8
+    ensures { result ≡ plane_by (orders / PLANE_1 % 16) configure held }
 {
-    if digit == 0 { held } else { configure }
+    if part(orders, PLANE) == 0 {
+        held
+    } else {
+        configure
+    }
 }
 
-fn state_by(digit: u64, held: State) -> State
-    ensures { result ≡ state_by digit held }
+#[tactic(auto, unfolding(crate::specs::Settle::state_by))]
+fn state_by(orders: u64, held: State) -> State
+    ensures { result ≡ state_by (orders % 16) held }
 {
-    match digit {
-        2 => State::MoCallSetup,
-        3 => State::MtCallSetup,
-        4 => State::CallActive,
-        5 => State::Wait,
-        6 => State::CallDisconnect,
+    match part(orders, STATE) {
+        MO_CALL_SETUP => State::MoCallSetup,
+        MT_CALL_SETUP => State::MtCallSetup,
+        CALL_ACTIVE => State::CallActive,
+        WAIT => State::Wait,
+        CALL_DISCONNECT => State::CallDisconnect,
         _ => held,
     }
 }
 
 // Going to WAIT keeps the plane; any other change of state sets the kept plane to 4, which it is outside WAIT already.
-fn kept_by(digit: u64, call: Call) -> u8
-    ensures { result ≡ kept_by digit call }
+#[tactic(auto, unfolding(crate::specs::Settle::kept_by))]
+fn kept_by(orders: u64, call: Call) -> u8
+    ensures { result ≡ kept_by (orders % 16) call }
 {
-    if digit == 1 {
-        return call.kept;
+    match part(orders, STATE) {
+        STAY => call.kept,
+        WAIT => call.plane,
+        _ => Call::OFF,
     }
-    if digit == 5 {
-        return call.plane;
-    }
-    Call::OFF
 }
 
-fn path_by(digit: u64, held: Path) -> Path
-    ensures { result ≡ path_by digit held }
+#[tactic(auto, unfolding(crate::specs::Settle::path_by))]
+fn path_by(orders: u64, held: Path) -> Path
+    ensures { result ≡ path_by (orders / UP % 16) held }
 {
-    match digit {
-        1 => Path::Up,
-        2 => Path::Broken,
-        3 => Path::Restoring,
+    match part(orders, PATH) {
+        UP => Path::Up,
+        BROKEN => Path::Broken,
+        RESTORING => Path::Restoring,
         _ => held,
     }
 }
 
-fn sent_by(digit: u64, held: u8) -> u8
-    ensures { result ≡ sent_by digit held }
+#[tactic(auto, unfolding(crate::specs::Settle::sent_by))]
+fn sent_by(orders: u64, held: u8) -> u8
+    ensures { result ≡ sent_by (orders / UNSENT % 16) held }
 {
-    if digit == 1 {
-        return 0;
+    match part(orders, SENDING) {
+        UNSENT => 0,
+        SENT => 1,
+        _ => held,
     }
-    if digit == 2 {
-        return 1;
-    }
-    held
 }
 
+#[tactic(auto, unfolding(crate::specs::Settle::next_by))]
 pub fn next_by(call: Call, row: Row, configure: u8, timers: [bool; 7]) -> Call
     ensures { result ≡ next_by call row configure timers }
 {
     let n = row.orders;
     let s = call.state;
     let p = call.path;
-    if n % 16 == OVER {
+    if part(n, STATE) == OVER {
         return Call::fresh();
     }
-    let state = state_by(n % 16, s);
-    let path = path_by(n / UP % 16, p);
+    let state = state_by(n, s);
+    let path = path_by(n, p);
     Call {
         state,
         id: row.id,
         address: row.address,
         mode: row.mode,
         asked: row.asked,
-        sent: sent_by(n / UNSENT % 16, call.sent),
+        sent: sent_by(n, call.sent),
         path,
-        plane: plane_by(n / PLANE_1 % 16, configure, call.plane),
-        kept: kept_by(n % 16, call),
+        plane: plane_by(n, configure, call.plane),
+        kept: kept_by(n, call),
         code: row.code,
         slots: row.slots,
         timers,
@@ -280,12 +292,13 @@ pub fn next_by(call: Call, row: Row, configure: u8, timers: [bool; 7]) -> Call
 }
 
 // The draft that a row stands for.
+#[tactic(auto, unfolding(crate::specs::Settle::settled))]
 pub(crate) fn settle(call: Call, row: Row) -> Drafted
     ensures { as_draft result ≡ settled call row }
 {
     let n = row.orders;
     let timers = call.timers;
-    let configure = configure_by(n / PLANE_1 % 16, call);
+    let configure = configure_by(n, call);
     let timing = timing_by(n, row.code, timers, configure);
     let running = timing.running;
     let stops = timing.stops;

@@ -1,135 +1,106 @@
 // The step: an event comes in; the next record and the messages go out, or a refusal that changes nothing.
 ghost use Rattle.std.specs.Prelude.{◌≡◌, ◌<◌};
 ghost use Rattle.callcontrol.specs.Settle.{as_draft};
-ghost use Rattle.callcontrol.specs.Step.{answer_number, refusing, named_in, differs, other_call, over_transmission, carried, decided, step_of, as_outcome, unread_as, place_in};
+ghost use Rattle.callcontrol.specs.Step.{answer_number, place_in, named_in, other_call, over_transmission, carried, decided, step_of, as_outcome};
+ghost use Rattle.callcontrol.specs.declared.step.Refusal.{Refusal};
+ghost use Rattle.callcontrol.specs.declared.call.Call.{Call};
 
 use crate::call::Call;
 use crate::draft::Drafted;
 use crate::rows::row_for;
 use crate::settle::settle;
 use crate::writing::{lay_messages, messages_size};
-use records::events::{Event, EventRead, read_event};
+use records::bodies::Unreadable;
+use records::events::Event;
+use records::record::read;
 
-// What comes back.
-#[derive(Clone, Copy)]
-pub enum Answer {
-    // 0: taken.
-    Taken,
+// Why a step is refused: the first that applies, in the order of the paper's table.
+#[derive(Clone, Copy, Debug, PartialEq, Eq)]
+pub enum Refusal {
     // 1: the record is not sound.
     NotSound,
-    // 2: under 4 bytes handed in, or the length field differs from the bytes handed in.
-    BadLength,
-    // 3: the kind is no event kind.
-    UnknownKind,
-    // 9, after 3 and before 4: the kind is retired.
-    Retired,
-    // 4: body size or a field out of range.
-    BadBody,
+    // 2, 3, 9 and 4: the bytes are no event.
+    Unreadable(Unreadable),
     // 5: a network event of another call.
     OtherCall,
     // 6: no row for this state.
     NoRow,
-    // 7: the messages are longer than the lent buffer.
+    // 7, after 8: the messages are longer than the lent buffer.
     NoRoom,
-    // 8, after 6 and before 7: D-INFO over own transmission.
+    // 8: D-INFO over own transmission.
     OwnTransmission,
 }
 
-// The answer as the paper's number.
-pub fn answer_number(answer: Answer) -> u8
-    ensures value { result ≡ answer_number answer }
-    ensures upper_bound { result < 10 }
-{
-    match answer {
-        Answer::Taken => 0,
-        Answer::NotSound => 1,
-        Answer::BadLength => 2,
-        Answer::UnknownKind => 3,
-        Answer::Retired => 9,
-        Answer::BadBody => 4,
-        Answer::OtherCall => 5,
-        Answer::NoRow => 6,
-        Answer::NoRoom => 7,
-        Answer::OwnTransmission => 8,
+impl Refusal {
+    // The paper's number.
+    pub fn number(self) -> u8
+        ensures value { result ≡ answer_number self }
+        ensures upper_bound { result < 10 }
+    {
+        match self {
+            Refusal::NotSound => 1,
+            Refusal::Unreadable(unreadable) => unreadable.number(),
+            Refusal::OtherCall => 5,
+            Refusal::NoRow => 6,
+            Refusal::NoRoom => 7,
+            Refusal::OwnTransmission => 8,
+        }
+    }
+
+    // The place that comes with 4; 0 with every other.
+    pub fn place(self) -> u8
+        ensures { result ≡ place_in self }
+    {
+        match self {
+            Refusal::Unreadable(unreadable) => unreadable.place(),
+            _ => 0,
+        }
     }
 }
 
-// The answer, the place that comes with 4, the count of bytes written and the next record.
-#[derive(Clone, Copy)]
+impl From<Unreadable> for Refusal {
+    ghost from_gives = { λ unreadable refusal. refusal ≡ Refusal.Unreadable unreadable };
+
+    fn from(unreadable: Unreadable) -> Refusal {
+        Refusal::Unreadable(unreadable)
+    }
+}
+
+// What a step that is taken gives: the count of bytes written and the next record.
+#[derive(Clone, Copy, Debug, PartialEq, Eq)]
 pub struct Stepped {
-    pub answer: Answer,
-    pub place: u8,
     pub count: usize,
     pub call: Call,
 }
 
-// A refusal counts 0 bytes and returns the record as given.
-pub fn refuse(answer: Answer, place: u8, call: Call) -> Stepped
-    ensures { result ≡ refusing answer place call }
-{
-    Stepped {
-        answer,
-        place,
-        count: 0,
-        call,
-    }
-}
-
-// The identifier that an event names a call by.
-#[derive(Clone, Copy)]
-pub enum Named {
-    Id(u16),
-    NoCall,
-}
-
 // The identifier of a network event but D-SETUP.
-fn named_in(event: Event) -> Named
+fn named_in(event: Event) -> Option<u16>
     ensures { result ≡ named_in event }
 {
     match event {
-        Event::DCallProceeding { id } => Named::Id(id),
-        Event::DAlert { id } => Named::Id(id),
-        Event::DConnect {
-            id,
-            grant: _,
-            mode: _,
-            code: _,
-            slots: _,
-        } => Named::Id(id),
-        Event::DConnectAcknowledge {
-            id,
-            grant: _,
-            code: _,
-        } => Named::Id(id),
-        Event::DInfo {
-            id,
-            reset: _,
-            code: _,
-            mode: _,
-            slots: _,
-        } => Named::Id(id),
-        Event::DTxGranted { id, grant: _ } => Named::Id(id),
-        Event::DTxCeased { id } => Named::Id(id),
-        Event::DTxInterrupt { id, grant: _ } => Named::Id(id),
-        Event::DTxWait { id } => Named::Id(id),
-        Event::DTxContinue { id, go: _ } => Named::Id(id),
-        Event::DCallRestore {
-            id,
-            grant: _,
-            reset: _,
-            code: _,
-        } => Named::Id(id),
-        Event::DDisconnect { id } => Named::Id(id),
-        Event::DRelease { id } => Named::Id(id),
-        _ => Named::NoCall,
+        Event::DCallProceeding { id }
+        | Event::DAlert { id }
+        | Event::DConnect { id, .. }
+        | Event::DConnectAcknowledge { id, .. }
+        | Event::DInfo { id, .. }
+        | Event::DTxGranted { id, .. }
+        | Event::DTxCeased { id }
+        | Event::DTxInterrupt { id, .. }
+        | Event::DTxWait { id }
+        | Event::DTxContinue { id, .. }
+        | Event::DCallRestore { id, .. }
+        | Event::DDisconnect { id }
+        | Event::DRelease { id } => Some(id),
+        _ => None,
     }
 }
 
 // An identifier that differs from the held one; if 0 is held outside IDLE, every one agrees.
+#[tactic(auto, unfolding(crate::specs::Step::other_call))]
 fn other_call(call: Call, event: Event) -> bool
     ensures { result ≡ other_call call event }
 {
-    let Named::Id(id) = named_in(event) else {
+    let Some(id) = named_in(event) else {
         return false;
     };
     (id != call.id) & ((call.id != 0) | call.is_idle())
@@ -139,88 +110,44 @@ fn other_call(call: Call, event: Event) -> bool
 fn over_transmission(call: Call, event: Event) -> bool
     ensures { result ≡ over_transmission call event }
 {
-    match event {
-        Event::DInfo {
-            id: _,
-            reset: _,
-            code: _,
-            mode: _,
-            slots: _,
-        } => call.transmits(),
-        _ => false,
-    }
-}
-
-// The answer where no event was read.
-pub fn unread(read: EventRead) -> Answer
-    ensures { result ≡ unread_as read }
-{
-    match read {
-        EventRead::Is(_) => Answer::Taken,
-        EventRead::BadLength => Answer::BadLength,
-        EventRead::UnknownKind => Answer::UnknownKind,
-        EventRead::Retired => Answer::Retired,
-        EventRead::BadBody(_) => Answer::BadBody,
-    }
-}
-
-// The place that comes with it.
-pub fn place_in(read: EventRead) -> u8
-    ensures { result ≡ place_in read }
-{
-    match read {
-        EventRead::Is(_) => 0,
-        EventRead::BadLength => 0,
-        EventRead::UnknownKind => 0,
-        EventRead::Retired => 0,
-        EventRead::BadBody(place) => place,
-    }
+    matches!(event, Event::DInfo { .. }) & call.transmits()
 }
 
 // A row's messages into the lent buffer: counted first, and stored only where they fit.
-fn carry(call: Call, draft: Drafted, buffer: &mut [u8]) -> Stepped
-    ensures { as_outcome result buffer.new ≡ carried call (as_draft draft) buffer.old }
+fn carry(draft: Drafted, buffer: &mut [u8]) -> Result<Stepped, Refusal>
+    ensures { (call : Call) → as_outcome call result buffer.new ≡ carried call (as_draft draft) buffer.old }
 {
-    let size = messages_size(draft);
-    if buffer.len() < size {
-        return refuse(Answer::NoRoom, 0, call);
+    let count = messages_size(draft);
+    if buffer.len() < count {
+        return Err(Refusal::NoRoom);
     }
     lay_messages(draft, buffer);
-    let next = draft.call;
-    Stepped {
-        answer: Answer::Taken,
-        place: 0,
-        count: size,
-        call: next,
-    }
+    let call = draft.call;
+    Ok(Stepped { count, call })
 }
 
 // An event that was read, of a record that the caller has found sound.
-pub fn decide(call: Call, event: Event, buffer: &mut [u8]) -> Stepped
-    ensures { as_outcome result buffer.new ≡ decided call event buffer.old }
+#[tactic(auto, using(crate::proofs::Carried::by_other, crate::proofs::Carried::by_none, crate::proofs::Carried::by_transmission, crate::proofs::Carried::by_orders))]
+pub fn decide(call: Call, event: Event, buffer: &mut [u8]) -> Result<Stepped, Refusal>
+    ensures { as_outcome call result buffer.new ≡ decided call event buffer.old }
 {
     if other_call(call, event) {
-        return refuse(Answer::OtherCall, 0, call);
+        return Err(Refusal::OtherCall);
     }
-    let row = row_for(call, event);
-    if row.orders == 0 {
-        return refuse(Answer::NoRow, 0, call);
-    }
+    let Some(row) = row_for(call, event) else {
+        return Err(Refusal::NoRow);
+    };
     if over_transmission(call, event) {
-        return refuse(Answer::OwnTransmission, 0, call);
+        return Err(Refusal::OwnTransmission);
     }
-    carry(call, settle(call, row), buffer)
+    carry(settle(call, row), buffer)
 }
 
-pub fn step(call: Call, event: &[u8], buffer: &mut [u8]) -> Stepped
-    ensures { as_outcome result buffer.new ≡ step_of call event.now buffer.old }
+pub fn step(call: Call, event: &[u8], buffer: &mut [u8]) -> Result<Stepped, Refusal>
+    ensures { as_outcome call result buffer.new ≡ step_of call event.now buffer.old }
 {
     if !call.sound() {
-        return refuse(Answer::NotSound, 0, call);
+        return Err(Refusal::NotSound);
     }
-    let read = read_event(event);
-    let EventRead::Is(e) = read else {
-        return refuse(unread(read), place_in(read), call);
-    };
-    decide(call, e, buffer)
+    decide(call, read(event)?, buffer)
 }

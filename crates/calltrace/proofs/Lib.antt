@@ -1,1 +1,3 @@
 pub mod Traces
+pub mod Moved
+pub mod Counted

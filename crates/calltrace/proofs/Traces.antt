@@ -1,28 +1,21 @@
 -- The claims of specs/Claims.antt, each proved: every input has one trace, in whatever pieces it comes. Then how the trace of an input grows.
-use Prim.Native.Nat.{ℕ, zero, suc, ◌+◌, ◌-◌, ◌≤◌, ◌<◌}
+use Prim.Native.Nat.{ℕ, zero, suc, ◌+◌, ◌≤◌, ◌<◌}
 use mathlib.Core.Bool.{Bool, true, false, cond}
-use mathlib.Core.Path.{◌≡◌, refl, sym, ◌∙◌, ap, subst}
+use mathlib.Core.Path.{◌≡◌, refl, sym, ◌∙◌, ap}
 use mathlib.Core.List.{List, [], ◌∷◌, ◌++◌, append-nil, append_assoc}
 use native.Mathlib.Omega.{arith}
 use borrow.Author.Tests.{le-ltb, ltb-false, ne_eqb}
 use lib.Dec.{ltb}
 use lib.ListN.{length, take, drop, length-append, length-drop, get_or-append}
-use lib.Seq.{take-add, take-append-le, drop-append-le, sets-eq, take_at, length-take-le}
+use lib.Seq.{take-append-le, drop-append-le, length-take-le}
+use Rattle.std.proofs.Common.{take-append-drop}
 use Rattle.records.specs.Bytes.{number}
-use Rattle.records.specs.Bodies.{Stored}
 use Rattle.callcontrol.specs.declared.call.Call.{Call}
 use Rattle.callcontrol.specs.Call.{fresh_call}
-use Rattle.calltrace.specs.declared.block.Ahead.{Ahead}
 use Rattle.calltrace.specs.Line.{header, line_for}
-use Rattle.calltrace.specs.Block.{ahead_in, outcome_of, Lines, none, more, Traced}
+use Rattle.calltrace.specs.Block.{Ahead, ahead_in, outcome_of, Lines, none, more, Traced}
 use Rattle.calltrace.specs.Trace.{Trace, end, cut, short, whole, Complete, Underway, Due, DueIf, InHandIf}
 use Rattle.calltrace.specs.Claims.{Traceable, EveryTrace, OneTrace, LinesStay, LinesThenTrace, EndTraced}
-
--- to tell them apart
-abbrev tag : Ahead → ℕ
-tag Ahead.Cut = 0
-tag Ahead.Short = 1
-tag (Ahead.Whole size) = 2
 
 -- what a whole record says of the bytes, and the other way round
 record WholeIn (s : List ℕ) (size : ℕ) : Type 0 where
@@ -33,9 +26,9 @@ record WholeIn (s : List ℕ) (size : ℕ) : Type 0 where
 
 by_tests_lem : (a b d : Bool) (n m : ℕ) → cond a Ahead.Cut (cond b Ahead.Short (cond d Ahead.Cut (Ahead.Whole n))) ≡ Ahead.Whole m
     → (a ≡ false) × (b ≡ false) × (d ≡ false) × (n ≡ m)
-by_tests_lem true b d n m e = absurd (omega (arith, ap tag e))
-by_tests_lem false true d n m e = absurd (omega (arith, ap tag e))
-by_tests_lem false false true n m e = absurd (omega (arith, ap tag e))
+by_tests_lem true b d n m e = cc
+by_tests_lem false true d n m e = cc
+by_tests_lem false false true n m e = cc
 by_tests_lem false false false n m e = (refl, refl, refl, cc)
 
 whole_in : (s : List ℕ) {size : ℕ} → ahead_in s ≡ Ahead.Whole size → WholeIn s size
@@ -79,18 +72,26 @@ lines_then : {s : List ℕ} {c : Call} {mid : List ℕ} {d : Call} {t rest : Lis
 lines_then {t = t} p none = rw append-nil p
 lines_then {t = t} p (more size q h) = rw (← append_assoc) (more size (lines_then p q) h)
 
+-- the lines of a block that has none yet, and those of one more record
+pub traced_none : {s old : List ℕ} {c : Call} → Traced s c old s c old
+traced_none = record { text = []; ran = none; laid = sym (append-nil _) }
+
+pub traced_more : {s old rest mid new behind : List ℕ} {first c d : Call} (size : ℕ) → Traced s first old rest c mid → ahead_in rest ≡ Ahead.Whole size
+    → behind ≡ drop size rest → d ≡ (outcome_of c (take size rest)).call → new ≡ mid ++ line_for (outcome_of c (take size rest))
+    → Traced s first old behind d new
+traced_more {rest = rest} {c = c} size p h passed called laid =
+    record {
+      text = p.text ++ line_for (outcome_of c (take size rest));
+      ran = rw (passed, called) (more size p.ran h);
+      laid = rw (laid, p.laid) (simp append_assoc);
+    }
+
 lines_traced : {s : List ℕ} {c : Call} {rest : List ℕ} {d : Call} {t u : List ℕ} → Lines s c rest d t → Trace rest d u → Trace s c (t ++ u)
 lines_traced none r = r
 lines_traced (more size p h) r = rw append_assoc (lines_traced p (whole size h r))
 
 pub lines_then_trace : LinesThenTrace
 lines_then_trace s rest t u c d p r = lines_traced p r
-
--- lines that are stored stand behind those before them
-pub stored_behind : {old text new : List ℕ} {at next : ℕ} → Stored old at text next new → next ≤ length old → take next new ≡ take at old ++ text
-stored_behind {old} {text} {new} {at} {next} p h =
-    rw (p.now, sets-eq text old at (omega (arith, p.end)))
-    (take_at (take at old ++ text) (drop (at + length text) old) next (rw (length-append, length-take-le at old (omega (arith, p.end))) (sym p.end)))
 
 -- nothing is no whole record
 nothing : ahead_in [] ≡ Ahead.Cut
@@ -100,19 +101,19 @@ nothing = refl
 same_trace : {s t u : List ℕ} {c : Call} → Trace s c t → Trace s c u → t ≡ u
 same_trace end end = refl
 same_trace end (cut h k) = absurd (omega arith)
-same_trace end (short h) = absurd (omega (arith, ap tag (sym nothing ∙ h)))
-same_trace end (whole size h q) = absurd (omega (arith, ap tag (sym nothing ∙ h)))
+same_trace end (short h) = cc nothing
+same_trace end (whole size h q) = cc nothing
 same_trace (cut h k) end = absurd (omega arith)
 same_trace (cut h k) (cut h' k') = refl
 same_trace (cut h k) (short h') = refl
-same_trace (cut h k) (whole size h' q) = absurd (omega (arith, ap tag (sym h ∙ h')))
-same_trace (short h) end = absurd (omega (arith, ap tag (sym nothing ∙ h)))
+same_trace (cut h k) (whole size h' q) = cc
+same_trace (short h) end = cc nothing
 same_trace (short h) (cut h' k) = refl
 same_trace (short h) (short h') = refl
-same_trace (short h) (whole size h' q) = absurd (omega (arith, ap tag (sym h ∙ h')))
-same_trace (whole size h p) end = absurd (omega (arith, ap tag (sym nothing ∙ h)))
-same_trace (whole size h p) (cut h' k) = absurd (omega (arith, ap tag (sym h ∙ h')))
-same_trace (whole size h p) (short h') = absurd (omega (arith, ap tag (sym h ∙ h')))
+same_trace (short h) (whole size h' q) = cc
+same_trace (whole size h p) end = cc nothing
+same_trace (whole size h p) (cut h' k) = cc
+same_trace (whole size h p) (short h') = cc
 same_trace {s} {c = c} (whole size h p) (whole size' h' q) =
     let e : size' ≡ size = cc in rw e (ap (λ (l : List ℕ). line_for (outcome_of c (take size s)) ++ l) (same_trace p (rw e at q)))
 
@@ -141,17 +142,8 @@ end_traced [] c h = end
 end_traced (x ∷ xs) c h = rw (ne_eqb (suc (length xs)) 0 (λ e. omega arith)) (cut h (omega arith))
 
 -- how a trace on its way grows: it begins with the header,
-pub begins : {old new : List ℕ} {laid : ℕ} → Stored old 0 header laid new → laid ≤ length old → Underway 0 0 [] fresh_call (take laid new)
-begins {old} {new} {laid} p h =
-    record {
-      input = [];
-      before = [];
-      text = [];
-      all_read = refl;
-      all_written = refl;
-      ran = none;
-      said = append-nil header ∙ sym (stored_behind p h);
-    }
+pub begins : Underway 0 0 [] fresh_call header
+begins = record { input = []; before = []; text = []; all_read = refl; all_written = refl; ran = none; said = append-nil header }
 
 said_too : (head text further before lines : List ℕ) → head ++ text ≡ before ++ lines → head ++ (text ++ further) ≡ before ++ (lines ++ further)
 said_too head text further before lines e =
@@ -159,9 +151,8 @@ said_too head text further before lines e =
 
 module _ {read written : ℕ} {rest : List ℕ} {c : Call} where
   -- by the lines of a block
-  pub goes_on : {left old new : List ℕ} {d : Call} {filled laid : ℕ} → Underway read written rest c (take filled old)
-      → Traced rest c old filled left d laid new → laid ≤ length old → Underway read written left d (take laid new)
-  goes_on {left} {old} {new} {d} {filled} {laid} u p h =
+  pub goes_on : {old left new : List ℕ} {d : Call} → Underway read written rest c old → Traced rest c old left d new → Underway read written left d new
+  goes_on {old} u p =
       record {
         input = u.input;
         before = u.before;
@@ -169,12 +160,12 @@ module _ {read written : ℕ} {rest : List ℕ} {c : Call} where
         all_read = u.all_read;
         all_written = u.all_written;
         ran = lines_then u.ran p.ran;
-        said = rw (stored_behind p.stored h) (said_too header u.text p.text u.before (take filled old) u.said);
+        said = rw p.laid (said_too header u.text p.text u.before old u.said);
       }
 
   -- by writing what is in hand
-  pub writes : {lines : List ℕ} {laid : ℕ} → length lines ≡ laid → Underway read written rest c lines → Underway read (written + laid) rest c []
-  writes {lines} {laid} e u =
+  pub writes : {lines : List ℕ} → Underway read written rest c lines → Underway read (written + length lines) rest c []
+  writes {lines} u =
       record {
         input = u.input;
         before = u.before ++ lines;
@@ -200,9 +191,8 @@ module _ {read written : ℕ} {rest : List ℕ} {c : Call} where
       }
 
   -- and by the lines of its end
-  pub ends : {old text new : List ℕ} {at next : ℕ} → Underway read written rest c (take at old) → Trace rest c text → Stored old at text next new
-      → next ≤ length old → Complete read written (take next new)
-  ends {old} {text} {new} {at} u r p h =
+  pub ends : {old text new : List ℕ} → Underway read written rest c old → Trace rest c text → new ≡ old ++ text → Complete read written new
+  ends {old} {text} u r e =
       record {
         input = u.input;
         before = u.before;
@@ -210,7 +200,7 @@ module _ {read written : ℕ} {rest : List ℕ} {c : Call} where
         all_read = u.all_read;
         all_written = u.all_written;
         traced = lines_traced u.ran r;
-        said = rw (stored_behind p h) (said_too header u.text text u.before (take at old) u.said);
+        said = rw e (said_too header u.text text u.before old u.said);
       }
 
 -- lines in hand are due, with nothing behind them
@@ -247,22 +237,19 @@ others_due false read written front others p =
       };
     }
 
--- so is what is left of the lines that are laid
-pub left_due : (complete : Bool) (read written : ℕ) (lines : List ℕ) (laid done : ℕ) → done ≤ laid → laid ≤ length lines
-    → DueIf complete read written (take laid lines) → DueIf complete read (written + done) (take (laid - done) (drop done lines))
-left_due complete read written lines laid done h k p =
-    let all : laid ≡ done + (laid - done) = omega arith in
-    let long : length (take done lines) ≡ done = length-take-le done lines (omega arith) in
-    let parts : take laid lines ≡ take done lines ++ take (laid - done) (drop done lines) = ap (λ (n : ℕ). take n lines) all ∙ take-add done (laid - done) lines in
-    rw long at (others_due complete read written (take done lines) (take (laid - done) (drop done lines)) (subst (DueIf complete read written) parts p))
+-- so is what is left of lines of which some were taken
+pub left_due : (complete : Bool) (read written : ℕ) (lines : List ℕ) (done : ℕ) → done ≤ length lines → DueIf complete read written lines
+    → DueIf complete read (written + done) (drop done lines)
+left_due complete read written lines done h p =
+    rw (length-take-le done lines h) at (others_due complete read written (take done lines) (drop done lines) (rw take-append-drop p))
 
 -- where lines are due, so is none of them
 none_due : {read written : ℕ} {lines : List ℕ} → Due read written lines → Due read written []
 none_due {lines = lines} p = record { rest = p.rest; call = p.call; after = lines ++ p.after; underway = p.underway }
 
 -- at the end all of the lines in hand are due where they are complete, else none
-pub due_at_end : (complete unwritten : Bool) (read written laid : ℕ) (lines : List ℕ) → InHandIf complete unwritten read written (take laid lines)
-    → DueIf complete read written (take (cond complete laid 0) lines)
-due_at_end true unwritten read written laid lines p = p
-due_at_end false true read written laid lines p = none_due p.1
-due_at_end false false read written laid lines p = none_due p.1
+pub due_at_end : (complete unwritten : Bool) (read written : ℕ) (lines : List ℕ) → InHandIf complete unwritten read written lines
+    → DueIf complete read written (cond complete lines [])
+due_at_end true unwritten read written lines p = p
+due_at_end false true read written lines p = none_due p.1
+due_at_end false false read written lines p = none_due p.1

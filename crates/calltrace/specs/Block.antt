@@ -1,12 +1,22 @@
 -- What stands ahead in the bytes that are left, and the lines of the whole records among them.
-use Rattle.std.specs.Prelude.{ℕ, ◌<◌, ◌≤◌, cond, ◌≡◌, List, [], ◌++◌, ltb, length, take, drop, replicate}
+use Rattle.std.specs.Prelude.{ℕ, ◌<◌, ◌≤◌, cond, ◌≡◌, List, [], ◌++◌, ltb, length, take, drop, replicate, Option, Some, None, Result, Ok, Err}
 use Rattle.records.specs.Bytes.{number}
-use Rattle.records.specs.Bodies.{Stored}
 use Rattle.callcontrol.specs.declared.call.Call.{Call}
 use Rattle.callcontrol.specs.Step.{Outcome, step_of}
-use Rattle.calltrace.specs.declared.block.Ahead.{Ahead}
+use Rattle.calltrace.specs.declared.block.TooShort.{TooShort}
 use Rattle.calltrace.specs.declared.block.Pause.{Pause}
 use Rattle.calltrace.specs.Line.{line_most, line_for}
+
+-- a whole record of so many bytes; a record of which bytes are missing, or nothing; a length under 4, which no record has
+pub data Ahead : Type 0 where
+  Whole : ℕ → Ahead
+  Cut : Ahead
+  Short : Ahead
+
+abbrev pub as_ahead : Result (Option ℕ) TooShort → Ahead
+as_ahead (Ok (Some size)) = Ahead.Whole size
+as_ahead (Ok None) = Ahead.Cut
+as_ahead (Err e) = Ahead.Short
 
 -- the length, which counts all bytes of the record, stands in its first two
 unfoldable pub ahead_in : List ℕ → Ahead
@@ -31,14 +41,14 @@ pub data Lines (s : List ℕ) (first : Call) : List ℕ → Call → List ℕ �
   more : {rest : List ℕ} {c : Call} {text : List ℕ} (size : ℕ) → Lines s first rest c text → ahead_in rest ≡ Ahead.Whole size
       → Lines s first (drop size rest) (outcome_of c (take size rest)).call (text ++ line_for (outcome_of c (take size rest)))
 
--- those lines stored, and nothing else
-pub record Traced (s : List ℕ) (first : Call) (old : List ℕ) (filled : ℕ) (rest : List ℕ) (call : Call) (laid : ℕ) (new : List ℕ) : Type 0 where
+-- those lines behind the ones that were there, and nothing else
+pub record Traced (s : List ℕ) (first : Call) (old rest : List ℕ) (call : Call) (new : List ℕ) : Type 0 where
   pub text : List ℕ
   pub ran : Lines s first rest call text
-  pub stored : Stored old filled text laid new
+  pub laid : new ≡ old ++ text
 
 -- why the lines stop, by what is left and by the room for lines: a cut record leaves room to read on, and the last line has room
-abbrev pub PauseIn : List ℕ → ℕ → Pause → Type 0
-PauseIn rest room Pause.Full = room < line_most
-PauseIn rest room Pause.Cut = (ahead_in rest ≡ Ahead.Cut) × (length rest < 65535) × (line_most ≤ room)
-PauseIn rest room Pause.Short = (ahead_in rest ≡ Ahead.Short) × (line_most ≤ room)
+abbrev pub PauseIn : List ℕ → ℕ → Result Pause TooShort → Type 0
+PauseIn rest room (Ok Pause.Full) = room < line_most
+PauseIn rest room (Ok Pause.Cut) = (ahead_in rest ≡ Ahead.Cut) × (length rest < 65535) × (line_most ≤ room)
+PauseIn rest room (Err e) = (ahead_in rest ≡ Ahead.Short) × (line_most ≤ room)

@@ -1,9 +1,8 @@
 -- What is claimed of traces, as types. proofs/Traces.antt has a proof of each.
 use Rattle.std.specs.Prelude.{ℕ, ◌≡◌, List, ◌++◌, length}
 use Rattle.callcontrol.specs.declared.call.Call.{Call}
-use Rattle.calltrace.specs.declared.block.Ahead.{Ahead}
 use Rattle.calltrace.specs.Line.{end_lines}
-use Rattle.calltrace.specs.Block.{ahead_in, Lines}
+use Rattle.calltrace.specs.Block.{Ahead, ahead_in, Lines}
 use Rattle.calltrace.specs.Trace.{Trace}
 
 -- every input has a trace, from every call record

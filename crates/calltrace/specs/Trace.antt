@@ -2,9 +2,8 @@
 use Rattle.std.specs.Prelude.{ℕ, ◌+◌, ◌<◌, ◌≤◌, ◌^◌, Bool, true, false, ◌≡◌, List, [], ◌++◌, length, take, drop}
 use Rattle.callcontrol.specs.declared.call.Call.{Call}
 use Rattle.callcontrol.specs.Call.{fresh_call}
-use Rattle.calltrace.specs.declared.block.Ahead.{Ahead}
 use Rattle.calltrace.specs.Line.{header, line_for, last_line}
-use Rattle.calltrace.specs.Block.{ahead_in, outcome_of, Lines}
+use Rattle.calltrace.specs.Block.{Ahead, ahead_in, outcome_of, Lines}
 
 -- the lines of an input, from a call record on
 pub data Trace : List ℕ → Call → List ℕ → Type 0 where

@@ -1,157 +1,182 @@
 // The records of a block of input: where each ends, the lines of those that are there whole, and the rest that more input completes.
-ghost use Rattle.std.specs.Prelude.{◌≡◌, ℕ, ◌+◌, ◌-◌, ◌<◌, ◌≤◌, length, take, drop};
-ghost use Rattle.records.specs.Bodies.{Stored};
+ghost use Rattle.std.specs.Prelude.{◌≡◌, ℕ, ◌+◌, ◌-◌, ◌<◌, ◌≤◌, ◌++◌, List, [], length, take, drop, IfOk, OnErr, is_err};
+ghost use Rattle.calltrace.specs.Counts.{count_of, count_told};
 ghost use Rattle.calltrace.specs.Line.{line_most, line_for};
-ghost use Rattle.calltrace.specs.Block.{ahead_in, AheadFits, outcome_of, PauseIn, Traced};
+ghost use Rattle.calltrace.specs.Block.{ahead_in, as_ahead, AheadFits, outcome_of, PauseIn, Traced};
 
-use crate::line::{LINE_MOST, Line, put_line};
+use crate::line::{LINE_ROOM, Line, LineBlock};
 use callcontrol::call::Call;
-use callcontrol::step::{answer_number, step};
+use callcontrol::step::step;
+use std::io;
+use std::io::{Read, Stdin};
+use std::marker::Model;
 
-// What stands at a position.
-#[derive(Clone, Copy)]
-pub enum Ahead {
-    // A whole record, of so many bytes.
-    Whole(usize),
-    // A record of which bytes are missing, or nothing.
-    Cut,
-    // A length under 4, which no record has.
-    Short,
-}
+// Room for the longest record and for a read of as many bytes, so that few reads are needed.
+const INPUT_ROOM: usize = 131072;
 
-// Why the lines of a block stop.
-#[derive(Clone, Copy)]
+// A length under 4, which no record has.
+#[derive(Clone, Copy, Debug, PartialEq, Eq)]
+pub struct TooShort;
+
+// Why the lines of a block stop where no length is too short.
+#[derive(Clone, Copy, Debug, PartialEq, Eq)]
 pub enum Pause {
     // There is no room for another line.
     Full,
     // What is left is no whole record.
     Cut,
-    // A length under 4 follows.
-    Short,
 }
 
-#[derive(Clone, Copy)]
-pub struct Drained {
-    // Where the next record starts.
-    pub at: usize,
-    // Where the next line starts.
-    pub laid: usize,
-    pub call: Call,
-    pub pause: Pause,
+// The bytes that were read and are not yet passed.
+#[derive(Drop)]
+pub struct InputBlock {
+    bytes: [u8; INPUT_ROOM],
+    at: usize,
+    held: usize,
 }
 
-#[derive(Clone, Copy)]
-struct Turned {
-    laid: usize,
-    call: Call,
+impl Model for InputBlock {
+    ghost use Rattle.std.specs.Prelude.{ℕ, ◌≤◌, List, take, drop};
+    ghost use Rattle.calltrace.specs.declared.block.TheConstants.{INPUT_ROOM};
+
+    ghost Value = { List ℕ };
+
+    ghost view = { λ b. drop b.at (take b.held b.bytes) };
+
+    ghost invariant = { λ b. (b.at ≤ b.held) × (b.held ≤ INPUT_ROOM) };
 }
 
-fn ahead_at(s: &[u8], at: usize) -> Ahead
-    requires { at ≤ length s.now }
-    ensures value { result ≡ ahead_in (drop at s.now) }
-    ensures ahead_fits { AheadFits (length s.now - at) result }
-{
-    let left = s.len() - at;
-    if left < 2 {
-        return Ahead::Cut;
-    }
-    let size = (s[at] as usize) + 256 * (s[at + 1] as usize);
-    if size < 4 {
-        return Ahead::Short;
-    }
-    if left < size {
-        return Ahead::Cut;
-    }
-    Ahead::Whole(size)
-}
-
-// One record through the step, which is lent 64 bytes for messages, and its line.
-fn turn(call: Call, event: &[u8], lines: &mut [u8], laid: usize) -> Turned
-    requires { laid + line_most ≤ length lines.old }
-    ensures call_value { result.call ≡ (outcome_of call event.now).call }
-    ensures stored { Stored lines.old laid (line_for (outcome_of call event.now)) result.laid lines.new }
-    ensures laid_in_bounds { result.laid ≤ length lines.old }
-{
-    let mut messages = [0u8; 64];
-    let stepped = step(call, event, &mut messages);
-    let next = stepped.call;
-    let answer = stepped.answer;
-    let state = next.state;
-    let line = Line {
-        answer: answer_number(answer),
-        state,
-        plane: next.plane,
-        count: stepped.count as u8,
-        place: stepped.place,
-    };
-    let end = put_line(lines, laid, line);
-    Turned {
-        laid: end,
-        call: next,
-    }
-}
-
-// The lines of the whole records from `from` on, for as long as there is room for a line.
-pub fn drain(s: &[u8], from: usize, first: Call, lines: &mut [u8], filled: usize) -> Drained
-    requires from_in_bounds { from ≤ length s.now }
-    requires filled_in_bounds { filled ≤ length lines.old }
-    ensures at_in_bounds { result.at ≤ length s.now }
-    ensures laid_in_bounds { result.laid ≤ length lines.old }
-    ensures pause_in { PauseIn (drop result.at s.now) (length lines.old - result.laid) result.pause }
-    ensures traced { Traced (drop from s.now) first lines.old filled (drop result.at s.now) result.call result.laid lines.new }
-{
-    let mut at = from;
-    let mut call = first;
-    let mut laid = filled;
-    while LINE_MOST <= lines.len() - laid {
-        let ahead = ahead_at(s, at);
-        match ahead {
-            Ahead::Whole(size) => {
-                let end = at + size;
-                let turned = turn(call, &s[at..end], lines, laid);
-                let next = turned.call;
-                call = next;
-                laid = turned.laid;
-                at = end;
-            }
-            Ahead::Cut => {
-                return Drained {
-                    at,
-                    laid,
-                    call,
-                    pause: Pause::Cut,
-                };
-            }
-            Ahead::Short => {
-                return Drained {
-                    at,
-                    laid,
-                    call,
-                    pause: Pause::Short,
-                };
-            }
+impl InputBlock {
+    pub fn new() -> InputBlock
+        ensures { result ≡ [] }
+    {
+        InputBlock {
+            bytes: [0; INPUT_ROOM],
+            at: 0,
+            held: 0,
         }
     }
-    Drained {
-        at,
-        laid,
-        call,
-        pause: Pause::Full,
+
+    pub fn left(&self) -> &[u8]
+        ensures value { result.now ≡ self.now }
+        ensures upper_bound { length self.now ≤ INPUT_ROOM }
+    {
+        &self.bytes[self.at..self.held]
+    }
+
+    fn pass(&mut self, count: usize)
+        requires { count ≤ length self.old }
+        ensures { self.new ≡ drop count self.old }
+    {
+        self.at += count;
+    }
+
+    // Reads once behind the bytes that are left: how many came, 0 at the end of the input. The room that is asked for tells the end of
+    // the input from a block that is full.
+    pub fn read_on(&mut self, input: Stdin) -> io::Result<usize>
+        requires { length self.old < INPUT_ROOM }
+        ensures left_unchanged { take (length self.old) self.new ≡ self.old }
+        ensures length_value { length self.new ≡ length self.old + count_told result }
+        ensures upper_bound { length self.new ≤ INPUT_ROOM }
+    {
+        let rest = keep_rest(&mut self.bytes, self.at, self.held);
+        self.at = 0;
+        self.held = rest;
+        let count = read_behind(input, &mut self.bytes, rest)?;
+        self.held = rest + count;
+        Ok(count)
     }
 }
 
 // Moves the bytes from `at` to `held` to the front, and answers how many they are.
-pub fn keep_rest(bytes: &mut [u8], at: usize, held: usize) -> usize
+#[tactic(auto, using(crate::proofs::Moved::moved))]
+fn keep_rest(bytes: &mut [u8], at: usize, held: usize) -> usize
     requires at_le_held { at ≤ held }
     requires held_in_bounds { held ≤ length bytes.old }
     ensures at_value { result + at ≡ held }
     ensures bytes_after { take result bytes.new ≡ drop at (take held bytes.old) }
 {
-    let rest = held - at;
-    let mut i = 0;
-    while i < rest {
-        bytes[i] = bytes[at + i];
-        i += 1;
+    bytes.copy_within(at..held, 0);
+    held - at
+}
+
+// What the answer of a read comes to: an error is a read that failed, by which no byte came; any other says how many came.
+fn came_by(got: io::Result<usize>, room: &[u8]) -> io::Result<usize>
+    ensures count_value { count_told result ≡ count_of got (length room.now) }
+    ensures count_in_bounds { count_told result ≤ length room.now }
+    ensures failed_value { is_err result ≡ is_err got }
+{
+    Ok(got?.min(room.len()))
+}
+
+// Reads once behind the bytes that are held: how many came, 0 at the end of the input.
+fn read_behind(mut input: Stdin, bytes: &mut [u8], held: usize) -> io::Result<usize>
+    requires { held < length bytes.old }
+    ensures count_in_bounds { held + count_told result ≤ length bytes.old }
+    ensures bytes_unchanged { take held bytes.new ≡ take held bytes.old }
+{
+    let room = &mut bytes[held..];
+    let got = input.read(room);
+    came_by(got, room)
+}
+
+// The length of the record at the front, where it is there whole. Its first two bytes say the length.
+#[tactic(auto, unfolding(crate::specs::Block::ahead_in, records::specs::Bytes::number))]
+fn record_ahead(s: &[u8]) -> Result<Option<usize>, TooShort>
+    ensures value { as_ahead result ≡ ahead_in s.now }
+    ensures ahead_fits { AheadFits (length s.now) (as_ahead result) }
+{
+    let &[low, high, ..] = s else {
+        return Ok(None);
+    };
+    let size = u16::from_le_bytes([low, high]) as usize;
+    if size < 4 {
+        return Err(TooShort);
     }
-    rest
+    if s.len() < size {
+        return Ok(None);
+    }
+    Ok(Some(size))
+}
+
+// One record through the step, which is lent 64 bytes for messages, and its line.
+fn turn(call: Call, event: &[u8], lines: &mut LineBlock) -> Call
+    requires { length lines.old + line_most ≤ LINE_ROOM }
+    ensures call_value { result ≡ (outcome_of call event.now).call }
+    ensures laid { lines.new ≡ lines.old ++ line_for (outcome_of call event.now) }
+{
+    let mut messages = [0; 64];
+    let (answer, next, count, place) = match step(call, event, &mut messages) {
+        Ok(stepped) => (0, stepped.call, stepped.count as u8, 0),
+        Err(refusal) => (refusal.number(), call, 0, refusal.place()),
+    };
+    lines.put_line(Line {
+        answer,
+        state: next.state,
+        plane: next.plane,
+        count,
+        place,
+    });
+    next
+}
+
+// The lines of the whole records that are left, for as long as there is room for a line.
+#[tactic(auto, using(crate::proofs::Traces::traced_none, crate::proofs::Traces::traced_more))]
+pub fn drain(
+    block: &mut InputBlock,
+    call: &mut Call,
+    lines: &mut LineBlock,
+) -> Result<Pause, TooShort>
+    ensures pause_in { PauseIn block.new (LINE_ROOM - length lines.new) result }
+    ensures upper_bound { length lines.new ≤ LINE_ROOM }
+    ensures traced { Traced block.old call.old lines.old block.new call.new lines.new }
+{
+    while lines.has_room() {
+        let Some(size) = record_ahead(block.left())? else {
+            return Ok(Pause::Cut);
+        };
+        *call = turn(*call, &block.left()[..size], lines);
+        block.pass(size);
+    }
+    Ok(Pause::Full)
 }

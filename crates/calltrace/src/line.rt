@@ -1,15 +1,18 @@
 // The text of a line: the answer, the state and the plane of the record given back, the count of bytes written, and the place that comes with
 // answer 4. The last line is that of a record which no step answers.
-ghost use Rattle.std.specs.Prelude.{ℕ, ◌+◌, ◌<◌, ◌≤◌, List, [], ◌∷◌, length};
-ghost use Rattle.records.specs.Bodies.{Stored};
+ghost use Rattle.std.specs.Prelude.{◌≡◌, ◌+◌, ◌<◌, ◌≤◌, [], ◌∷◌, ◌++◌, length, leb};
 ghost use Rattle.calltrace.specs.Line.{code, decimal, name_of, header, line_most, line_bytes, last_line, end_lines};
 
 use callcontrol::call::{Call, State};
+use std::marker::Model;
 
 // The most bytes that a line takes: the header's.
-pub const LINE_MOST: usize = 31;
+const LINE_MOST: usize = 31;
 
-#[derive(Clone, Copy)]
+// Room for the lines, so that few writes are needed.
+pub const LINE_ROOM: usize = 65536;
+
+#[derive(Clone, Copy, Debug, PartialEq, Eq)]
 pub struct Line {
     pub answer: u8,
     pub state: State,
@@ -18,130 +21,161 @@ pub struct Line {
     pub place: u8,
 }
 
-// Each answers the position behind what it stores.
-
-fn put_byte(lines: &mut [u8], at: usize, byte: u8) -> usize
-    requires { at < length lines.old }
-    ensures { Stored lines.old at (byte ∷ []) result lines.new }
-{
-    lines[at] = byte;
-    at + 1
-}
-
-fn put_text(lines: &mut [u8], at: usize, text: &[u8]) -> usize
-    requires { at + length text.now ≤ length lines.old }
-    ensures { Stored lines.old at text.now result lines.new }
-{
-    let mut i = 0;
-    while i < text.len() {
-        lines[at + i] = text[i];
-        i += 1;
-    }
-    at + i
-}
-
-fn put_digit(lines: &mut [u8], at: usize, digit: u8) -> usize
-    requires at_in_bounds { at < length lines.old }
-    requires digit_bound { digit < 10 }
-    ensures { Stored lines.old at (code digit) result lines.new }
-{
-    put_byte(lines, at, b'0' + digit)
-}
-
-fn put_number(lines: &mut [u8], at: usize, n: u8) -> usize
-    requires { at + 3 ≤ length lines.old }
-    ensures stored { Stored lines.old at (decimal n) result lines.new }
-    ensures upper_bound { result ≤ at + 3 }
-{
-    if n < 10 {
-        return put_digit(lines, at, n);
-    }
-    if n < 100 {
-        let next = put_digit(lines, at, n / 10);
-        return put_digit(lines, next, n % 10);
-    }
-    let next = put_digit(lines, at, n / 100);
-    let next = put_digit(lines, next, n / 10 % 10);
-    put_digit(lines, next, n % 10)
-}
-
-// A space, and a number behind it.
-fn put_column(lines: &mut [u8], at: usize, n: u8) -> usize
-    requires { at + 4 ≤ length lines.old }
-    ensures stored { Stored lines.old at (32 ∷ decimal n) result lines.new }
-    ensures upper_bound { result ≤ at + 4 }
-{
-    let at = put_byte(lines, at, b' ');
-    put_number(lines, at, n)
-}
-
-fn put_name(lines: &mut [u8], at: usize, state: State) -> usize
-    requires { at + 15 ≤ length lines.old }
-    ensures stored { Stored lines.old at (name_of state) result lines.new }
-    ensures upper_bound { result ≤ at + 15 }
-{
-    match state {
-        State::Idle => put_text(lines, at, b"IDLE"),
-        State::MoCallSetup => put_text(lines, at, b"MO-CALL-SETUP"),
-        State::MtCallSetup => put_text(lines, at, b"MT-CALL-SETUP"),
-        State::CallActive => put_text(lines, at, b"CALL-ACTIVE"),
-        State::Wait => put_text(lines, at, b"WAIT"),
-        State::CallDisconnect => put_text(lines, at, b"CALL-DISCONNECT"),
-    }
-}
-
-pub fn put_header(lines: &mut [u8]) -> usize
-    requires { 31 ≤ length lines.old }
-    ensures stored { Stored lines.old 0 header result lines.new }
-    ensures upper_bound { result ≤ 31 }
-{
-    put_text(lines, 0, b"answer state plane bytes place\n")
-}
-
-pub fn put_line(lines: &mut [u8], at: usize, line: Line) -> usize
-    requires line_most_in_bounds { at + line_most ≤ length lines.old }
-    requires answer_bound { line.answer < 10 }
-    ensures stored { Stored lines.old at (line_bytes line) result lines.new }
-    ensures upper_bound { result ≤ at + line_most }
-{
-    let state = line.state;
-    let at = put_digit(lines, at, line.answer);
-    let at = put_byte(lines, at, b' ');
-    let at = put_name(lines, at, state);
-    let at = put_column(lines, at, line.plane);
-    let at = put_column(lines, at, line.count);
-    let at = put_column(lines, at, line.place);
-    put_byte(lines, at, b'\n')
-}
-
-// The line of a record that is cut or has a length under 4.
-pub fn put_last(lines: &mut [u8], at: usize, call: Call) -> usize
-    requires { at + line_most ≤ length lines.old }
-    ensures stored { Stored lines.old at (last_line call) result lines.new }
-    ensures upper_bound { result ≤ at + line_most }
-{
-    let state = call.state;
-    put_line(
-        lines,
-        at,
+impl Line {
+    // The line of a record that is cut or has a length under 4.
+    pub fn last(call: Call) -> Line
+        ensures value { line_bytes result ≡ last_line call }
+        ensures answer_bound { result.answer < 10 }
+    {
         Line {
             answer: 2,
-            state,
+            state: call.state,
             plane: call.plane,
             count: 0,
             place: 0,
-        },
-    )
+        }
+    }
 }
 
-// The end of the input, at which a record of which `rest` bytes came has a line too.
-pub fn put_end(lines: &mut [u8], at: usize, call: Call, rest: usize) -> usize
-    requires { at + line_most ≤ length lines.old }
-    ensures stored { Stored lines.old at (end_lines rest call) result lines.new }
-    ensures upper_bound { result ≤ at + line_most }
-{
-    if rest == 0 {
-        return at;
+// The bytes of lines that are laid and not yet written.
+#[derive(Drop)]
+pub struct LineBlock {
+    bytes: [u8; LINE_ROOM],
+    laid: usize,
+}
+
+impl Model for LineBlock {
+    ghost use Rattle.std.specs.Prelude.{ℕ, ◌≤◌, List, take};
+    ghost use Rattle.calltrace.specs.declared.line.TheConstants.{LINE_ROOM};
+
+    ghost Value = { List ℕ };
+
+    ghost view = { λ l. take l.laid l.bytes };
+
+    ghost invariant = { λ l. l.laid ≤ LINE_ROOM };
+}
+
+impl LineBlock {
+    pub fn new() -> LineBlock
+        ensures { result ≡ [] }
+    {
+        LineBlock {
+            bytes: [0; LINE_ROOM],
+            laid: 0,
+        }
     }
-    put_last(lines, at, call)
+
+    pub fn laid(&self) -> &[u8]
+        ensures value { result.now ≡ self.now }
+        ensures upper_bound { length self.now ≤ LINE_ROOM }
+    {
+        &self.bytes[..self.laid]
+    }
+
+    pub fn has_room(&self) -> bool
+        ensures value { result ≡ leb (length self.now + line_most) LINE_ROOM }
+        ensures upper_bound { length self.now ≤ LINE_ROOM }
+    {
+        self.laid + LINE_MOST <= LINE_ROOM
+    }
+
+    // After the lines are written.
+    pub fn clear(&mut self)
+        ensures { self.new ≡ [] }
+    {
+        self.laid = 0;
+    }
+
+    // Begins anew, with the header.
+    pub fn begin(&mut self)
+        ensures value { self.new ≡ header }
+        ensures upper_bound { length self.new ≤ line_most }
+    {
+        self.clear();
+        self.put(b"answer state plane bytes place\n");
+    }
+
+    #[tactic(auto, unfolding(crate::specs::Line::line_of))]
+    pub fn put_line(&mut self, line: Line)
+        requires line_most_in_bounds { length self.old + line_most ≤ LINE_ROOM }
+        requires answer_bound { line.answer < 10 }
+        ensures value { self.new ≡ self.old ++ line_bytes line }
+        ensures upper_bound { length self.new ≤ length self.old + line_most }
+    {
+        self.put_digit(line.answer);
+        self.put(b" ");
+        self.put(name(line.state));
+        self.put_column(line.plane);
+        self.put_column(line.count);
+        self.put_column(line.place);
+        self.put(b"\n");
+    }
+
+    // The end of the input, at which a record of which `rest` bytes came has a line too.
+    pub fn put_end(&mut self, call: Call, rest: usize)
+        requires { length self.old + line_most ≤ LINE_ROOM }
+        ensures value { self.new ≡ self.old ++ end_lines rest call }
+        ensures upper_bound { length self.new ≤ length self.old + line_most }
+    {
+        if rest > 0 {
+            self.put_line(Line::last(call));
+        }
+    }
+
+    fn put(&mut self, text: &[u8])
+        requires { length self.old + length text.now ≤ LINE_ROOM }
+        ensures { self.new ≡ self.old ++ text.now }
+    {
+        let end = self.laid + text.len();
+        self.bytes[self.laid..end].copy_from_slice(text);
+        self.laid = end;
+    }
+
+    fn put_digit(&mut self, digit: u8)
+        requires room { length self.old < LINE_ROOM }
+        requires digit_bound { digit < 10 }
+        ensures { self.new ≡ self.old ++ code digit }
+    {
+        self.put(&[b'0' + digit]);
+    }
+
+    // By hand: `write!` says what it wrote only where it answers `Ok`, and no contract says that it does so where there is room (tried).
+    #[tactic(auto, unfolding(crate::specs::Line::decimal))]
+    fn put_number(&mut self, n: u8)
+        requires { length self.old + 3 ≤ LINE_ROOM }
+        ensures value { self.new ≡ self.old ++ decimal n }
+        ensures upper_bound { length self.new ≤ length self.old + 3 }
+    {
+        if n >= 100 {
+            self.put_digit(n / 100);
+        }
+        if n >= 10 {
+            self.put_digit(n / 10 % 10);
+        }
+        self.put_digit(n % 10);
+    }
+
+    // A space, and a number behind it.
+    fn put_column(&mut self, n: u8)
+        requires { length self.old + 4 ≤ LINE_ROOM }
+        ensures value { self.new ≡ self.old ++ 32 ∷ decimal n }
+        ensures upper_bound { length self.new ≤ length self.old + 4 }
+    {
+        self.put(b" ");
+        self.put_number(n);
+    }
+}
+
+fn name(state: State) -> &'static [u8]
+    ensures value { result.now ≡ name_of state }
+    ensures upper_bound { length result.now ≤ 15 }
+{
+    match state {
+        State::Idle => b"IDLE",
+        State::MoCallSetup => b"MO-CALL-SETUP",
+        State::MtCallSetup => b"MT-CALL-SETUP",
+        State::CallActive => b"CALL-ACTIVE",
+        State::Wait => b"WAIT",
+        State::CallDisconnect => b"CALL-DISCONNECT",
+    }
 }

@@ -13,15 +13,14 @@ use Rattle.records.specs.Bodies.{flat_size}
 use Rattle.records.specs.Messages.{message_size}
 use Rattle.callcontrol.specs.Writing.{bytes_of}
 use Rattle.callcontrol.proofs.Laying.{size_one}
+use Rattle.channel.proofs.Asking.{size_rejects_in}
 use Rattle.channel.specs.declared.rooms.Wait.{Wait}
 use Rattle.channel.specs.declared.rooms.Room.{Room}
-use Rattle.channel.specs.declared.questions.Asked.{Asked}
-use Rattle.channel.specs.declared.questions.Decision.{Decision}
 use Rattle.channel.specs.Rooms.{free_room, is_free, has_number, waits_for, of_call, some?, rooms_sound, in_first, all_freed, count}
-use Rattle.channel.specs.Questions.{Outcome, refusal, carried, asked_of, decision_of, first_out, taken, decided_as, ask_of, decide_of, ended_of, rejects_in}
+use Rattle.channel.specs.Questions.{Asked, Decision, Outcome, refusal, carried, asked_of, decision_of, first_out, taken, decided_as, ask_of, decide_of, ended_of, rejects_in}
 use Rattle.channel.specs.Runs.{question, decision, end, outcome}
 use Rattle.channel.specs.Answers.{applies, first_of, AnsweredInOrder}
-use Rattle.channel.proofs.Turns.{seven, size_rejects_in}
+use Rattle.channel.proofs.Turns.{seven}
 
 -- over, and within
 over : (m n : ℕ) → ltb m n ≡ not (leb n m)

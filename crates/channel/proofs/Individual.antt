@@ -10,6 +10,10 @@ use lib.ListN.{length}
 use Rattle.records.specs.declared.messages.Message.{Message}
 use Rattle.records.specs.Bodies.{flat_size}
 use Rattle.records.specs.Messages.{message_size}
+use Rattle.std.specs.Prelude.{Result, Ok, Err}
+use Rattle.callcontrol.specs.declared.call.Call.{Call}
+use Rattle.callcontrol.specs.declared.step.Refusal.{Refusal}
+use Rattle.callcontrol.specs.declared.step.Stepped.{Stepped}
 use Rattle.callcontrol.specs.Step as step
 use Rattle.callcontrol.specs.Writing.{bytes_of}
 use Rattle.callcontrol.proofs.Laying.{size_one}
@@ -17,10 +21,8 @@ use Rattle.demands.proofs.Facts as facts
 use Rattle.demands.proofs.ReadsBack.{stored}
 use Rattle.channel.specs.declared.rooms.Wait.{Wait}
 use Rattle.channel.specs.declared.rooms.Room.{Room}
-use Rattle.channel.specs.declared.questions.Reply.{Reply}
-use Rattle.channel.specs.declared.questions.Asked.{Asked}
 use Rattle.channel.specs.Rooms.{fresh_rooms, is_free, has_number, of_call, some?, every?, count, in_first, all_freed}
-use Rattle.channel.specs.Questions.{Outcome, carried, accept, reject, asked_of, asked_by, pdu_of, first_out, taken, rejects_in}
+use Rattle.channel.specs.Questions.{Reply, Asked, Outcome, carried, accept, reject, asked_of, asked_by, pdu_of, first_out, taken, rejects_in, step_number}
 use Rattle.channel.specs.Runs.{Turn, question, end, lent_by, outcome, run, verdicts, verdicts_in}
 use Rattle.channel.specs.Demands as claims
 use Rattle.channel.specs.Demands.{Waiting, is_question}
@@ -55,12 +57,17 @@ individual_asked k = by (eqb k 0)
     by true = refl
     by false = refl
 
+-- its number is that of the outcome
+number_of : (call : Call) (s : Result Stepped Refusal) (left : List ℕ) → step_number s ≡ (step.as_outcome call s left).answer
+number_of call (Ok s) left = refl
+number_of call (Err e) left = refl
+
 pub individual : claims.Individual
 unfolding pdu_of outcome
 individual ts n c b call pdu lent left s h promise zero =
     let rooms = run fresh_rooms ts in
-    let k = step.answer_number s.answer in
-    let same : k ≡ (step.step_of call pdu lent).answer = ap (λ (o : step.Outcome). o.answer) promise in
+    let k = step_number s in
+    let same : k ≡ (step.step_of call pdu lent).answer = number_of call s left ∙ ap (λ (o : step.Outcome). o.answer) promise in
     let wr = wrote_now rooms n c (asked_by k) (cond (eqb k 0) accept reject) b (individual_asked k) zero (went rooms (sound_is rooms (always ts)) (question n c (asked_by k) b)) in
     let v = asked_verdict (asked_by k) (cond (eqb k 0) accept reject) (individual_asked k) in (
       rw (wr.is, stored (bytes_of (Message.ChannelAnswer n (cond (eqb k 0) accept reject) ∷ [])) b wr.fits, ← same) (one_answer n (cond (eqb k 0) accept reject) h (omega (arith, v))),

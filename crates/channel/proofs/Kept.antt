@@ -8,10 +8,8 @@ use borrow.Author.Tests.{eqb-true, le-leb, lt-ltb}
 use lib.Dec.{eqb}
 use Rattle.channel.specs.declared.rooms.Wait.{Wait}
 use Rattle.channel.specs.declared.rooms.Room.{Room}
-use Rattle.channel.specs.declared.questions.Reply.{Reply}
-use Rattle.channel.specs.declared.questions.Asked.{Asked}
 use Rattle.channel.specs.Rooms.{wait_number, free_room, fresh_rooms, is_free, has_number, waits_for, room_fits, apart_from, some?, every?, rooms_sound, in_first, count}
-use Rattle.channel.specs.Questions.{Outcome, asked_of}
+use Rattle.channel.specs.Questions.{Reply, Asked, Outcome, asked_of}
 use Rattle.channel.specs.Runs.{Turn, question, decision, end, outcome, next, run, Handed, AllHanded}
 use Rattle.channel.proofs.Counting.{none_count, count_first, length-first, every_first, count_freed, length-freed, every_freed, free_no_number, waits_number, Sound, sound_of, sound_is}
 use Rattle.channel.proofs.Turns.{room_for, Went, stays, answers, waits, decides, ends, went}

@@ -4,7 +4,7 @@ pub mod Asking
 pub mod Counting
 pub mod Demands
 pub mod Determined
-pub mod Fours
+pub mod First
 pub mod Individual
 pub mod Kept
 pub mod Once

@@ -10,11 +10,8 @@ use lib.ListN.{length, length-append}
 use Rattle.records.specs.declared.messages.Message.{Message}
 use Rattle.channel.specs.declared.rooms.Wait.{Wait}
 use Rattle.channel.specs.declared.rooms.Room.{Room}
-use Rattle.channel.specs.declared.questions.Reply.{Reply}
-use Rattle.channel.specs.declared.questions.Asked.{Asked}
-use Rattle.channel.specs.declared.questions.Decision.{Decision}
 use Rattle.channel.specs.Rooms.{fresh_rooms, is_free, has_number, of_call, every?, count}
-use Rattle.channel.specs.Questions.{asked_of, decision_of, first_out, rejects_in}
+use Rattle.channel.specs.Questions.{Reply, Asked, Decision, asked_of, decision_of, first_out, rejects_in}
 use Rattle.channel.specs.Runs.{Turn, question, decision, end, outcome, next, run, Given, verdicts_on, verdicts, verdicts_in, asks, asked, Handed, AllHanded}
 use Rattle.channel.specs.Demands.{Once}
 use Rattle.channel.proofs.Counting.{count_freed, Sound, sound_is}

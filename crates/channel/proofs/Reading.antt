@@ -14,13 +14,14 @@ use Rattle.records.specs.Messages.{message_bytes}
 use Rattle.callcontrol.specs.Writing.{bytes_of}
 use Rattle.demands.proofs.Facts as facts
 use Rattle.demands.proofs.ReadsBack.{stored}
+use Rattle.channel.proofs.Asking.{size_rejects_in}
 use Rattle.channel.specs.declared.rooms.Wait.{Wait}
 use Rattle.channel.specs.declared.rooms.Room.{Room}
 use Rattle.channel.specs.Rooms.{has_number, of_call, every?, count}
 use Rattle.channel.specs.Questions.{refusal, reject, first_out, rejects, rejects_in}
 use Rattle.channel.specs.Runs.{Turn, lent_by, outcome, written_by, Given, answer_at, answers_within, answers_in, verdicts_on, verdicts}
 use Rattle.channel.proofs.Counting.{has_own, call_held}
-use Rattle.channel.proofs.Turns.{Wrote, size_rejects_in}
+use Rattle.channel.proofs.Turns.{Wrote}
 
 abbrev pub given : ℕ → ℕ → Given
 given n v = record { number = n; verdict = v }

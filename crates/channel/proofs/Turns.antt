@@ -1,9 +1,9 @@
 -- What a turn from sound rooms comes to: a refusal that changes nothing, an answer at once, a room taken, a question decided, or a call's questions
 -- rejected.
-use Prim.Native.Nat.{ℕ, ◌+◌, ◌*◌, ◌≤◌, ◌<◌}
+use Prim.Native.Nat.{ℕ, ◌≤◌, ◌<◌}
 use mathlib.Core.Path.{◌≡◌, refl, sym}
 use mathlib.Core.Bool.{Bool, true, false, cond}
-use mathlib.Core.List.{List, [], ◌∷◌, ◌++◌}
+use mathlib.Core.List.{List, [], ◌∷◌}
 use native.Mathlib.Omega.{arith}
 use borrow.Author.Tests.{leb-true, leb-false}
 use lib.Dec.{leb}
@@ -13,18 +13,15 @@ use Rattle.records.specs.declared.messages.Message.{Message}
 use Rattle.records.specs.Bodies.{flat_size}
 use Rattle.records.specs.Messages.{message_size}
 use Rattle.callcontrol.specs.Writing.{bytes_of}
-use Rattle.callcontrol.proofs.Laying.{size-append, size_one}
+use Rattle.callcontrol.proofs.Laying.{size_one}
 use Rattle.channel.specs.declared.rooms.Wait.{Wait}
 use Rattle.channel.specs.declared.rooms.Room.{Room}
-use Rattle.channel.specs.declared.questions.Reply.{Reply}
-use Rattle.channel.specs.declared.questions.Asked.{Asked}
-use Rattle.channel.specs.declared.questions.Decision.{Decision}
-use Rattle.channel.specs.Rooms.{free_room, is_free, has_number, waits_for, of_call, some?, rooms_sound, in_first, all_freed, count}
-use Rattle.channel.specs.Questions.{refusal, carried, asked_of, decision_of, first_out, taken, decide_of, rejects, rejects_in, reject_size}
+use Rattle.channel.specs.Rooms.{free_room, is_free, has_number, waits_for, of_call, some?, rooms_sound, in_first, all_freed}
+use Rattle.channel.specs.Questions.{Reply, Asked, Decision, refusal, carried, asked_of, decision_of, first_out, taken, decide_of, rejects_in}
 use Rattle.channel.specs.Runs.{Turn, question, decision, end, lent_by, outcome}
 use Rattle.channel.specs.Demands.{room}
 use Rattle.channel.proofs.Counting.{count_length, sound_of}
-use Rattle.channel.proofs.Asking.{size_rejects, ask_call, ask_unknown, ask_waits, ask_replied, decide_unknown, end_call, end_rejects}
+use Rattle.channel.proofs.Asking.{size_rejects_in, ask_call, ask_unknown, ask_waits, ask_replied, decide_unknown, end_call, end_rejects}
 
 -- taken: the rooms then, and the messages that went out
 pub record Wrote (rooms : List Room) (t : Turn) (after : List Room) (ms : List Message) : Type 0 where
@@ -55,16 +52,6 @@ unfolding bytes_of message_size flat_size
 first_size Wait.Nobody = omega arith
 first_size Wait.User = omega arith
 first_size Wait.Cancel = let z : length (bytes_of (Message.Cancel ∷ [])) ≡ 4 = size_one Message.Cancel in omega (arith, z)
-
-pub size_rejects_in : (c : ℕ) (rooms : List Room) → length (bytes_of (rejects_in c rooms)) ≡ 7 * count (of_call c) rooms
-unfolding bytes_of reject_size
-size_rejects_in c [] = refl
-size_rejects_in c (r ∷ rs) = by (of_call c r) (size-append (rejects c r) (rejects_in c rs)) (size_rejects c r) (size_rejects_in c rs)
-  where
-    by : (o : Bool) → length (bytes_of (rejects c r ++ rejects_in c rs)) ≡ length (bytes_of (rejects c r)) + length (bytes_of (rejects_in c rs)) → cond o 7 0 ≡ length (bytes_of (rejects c r))
-        → length (bytes_of (rejects_in c rs)) ≡ 7 * count (of_call c) rs → length (bytes_of (rejects c r ++ rejects_in c rs)) ≡ 7 * (cond o 1 0 + count (of_call c) rs)
-    by true e f again = omega arith
-    by false e f again = omega arith
 
 pub end_size : (c : ℕ) (rooms : List Room) → length rooms ≡ 4 → length (bytes_of (rejects_in c rooms)) ≤ 28
 end_size c rooms e = let z = size_rejects_in c rooms in let y = count_length (of_call c) rooms in omega (arith, z, y)

@@ -14,11 +14,8 @@ use Rattle.demands.proofs.Facts as facts
 use Rattle.demands.proofs.ReadsBack.{stored}
 use Rattle.channel.specs.declared.rooms.Wait.{Wait}
 use Rattle.channel.specs.declared.rooms.Room.{Room}
-use Rattle.channel.specs.declared.questions.Reply.{Reply}
-use Rattle.channel.specs.declared.questions.Asked.{Asked}
-use Rattle.channel.specs.declared.questions.Decision.{Decision}
 use Rattle.channel.specs.Rooms.{wait_number, free_room, fresh_rooms, is_free, has_number, waits_for, of_call, room_fits, some?, every?, in_first, freed, all_freed, count}
-use Rattle.channel.specs.Questions.{Outcome, refusal, carried, asked_of, decision_of, decide_of, first_out, rejects_in}
+use Rattle.channel.specs.Questions.{Reply, Asked, Decision, Outcome, refusal, carried, asked_of, decision_of, decide_of, first_out, rejects_in}
 use Rattle.channel.specs.Runs.{Turn, question, decision, end, lent_by, outcome, next, run, written_by, verdicts, verdicts_in, Handed, AllHanded}
 use Rattle.channel.specs.Demands as claims
 use Rattle.channel.specs.Demands.{is_question, Waiting, gives, decides, undecided, verdict_in, verdict_by}

@@ -1,19 +1,18 @@
 -- What holds of every run of questions, decisions and ends from four free rooms, and some of it of all rooms, as types. proofs/Demands.antt has a proof
 -- of each. The answers are read from the bytes (Runs).
-use Rattle.std.specs.Prelude.{ℕ, ◌+◌, ◌≤◌, ◌<◌, ◌≡◌, Bool, true, false, cond, ◌&&◌, ◌||◌, not, List, [], ◌∷◌, ◌++◌, eqb, length, take}
+use Rattle.std.specs.Prelude.{ℕ, ◌+◌, ◌≤◌, ◌<◌, ◌≡◌, Bool, true, false, cond, ◌&&◌, ◌||◌, not, List, [], ◌∷◌, ◌++◌, eqb, length, take, Result}
 use Rattle.callcontrol.specs.declared.call.Call.{Call}
+use Rattle.callcontrol.specs.declared.step.Refusal.{Refusal}
 use Rattle.callcontrol.specs.declared.step.Stepped.{Stepped}
 use Rattle.callcontrol.specs.Step as step
 use Rattle.callcontrol.specs.Writing.{bytes_of}
 use Rattle.demands.specs.Demands.{Reads}
 use Rattle.channel.specs.declared.rooms.Wait.{Wait}
 use Rattle.channel.specs.declared.rooms.Room.{Room}
+use Rattle.channel.specs.declared.questions.ChannelRefusal.{ChannelRefusal}
 use Rattle.channel.specs.declared.questions.Answered.{Answered}
-use Rattle.channel.specs.declared.questions.Reply.{Reply}
-use Rattle.channel.specs.declared.questions.Asked.{Asked}
-use Rattle.channel.specs.declared.questions.Decision.{Decision}
 use Rattle.channel.specs.Rooms.{wait_number, fresh_rooms, is_free, has_number, waits_for, some?, rooms_sound, count}
-use Rattle.channel.specs.Questions.{Outcome, as_outcome, refusal, accept, reject, asked_of, decision_of, first_out, pdu_of}
+use Rattle.channel.specs.Questions.{Outcome, Reply, Asked, Decision, as_outcome, refusal, accept, reject, asked_of, decision_of, first_out, step_number, pdu_of}
 use Rattle.channel.specs.Runs.{Turn, question, decision, end, lent_by, outcome, next, run, written_by, answers_in, verdicts, verdicts_in, asked, Handed, AllHanded, said}
 
 -- the rooms after a run
@@ -122,12 +121,12 @@ Then =
 -- where the step's promise holds of what it gave back for a PDU: accept if it took the PDU, else reject, and never ignore; the question never waits
 abbrev pub Individual : Type 0
 Individual =
-    (ts : List Turn) (n c : ℕ) (b : List ℕ) (call : Call) (pdu lent left : List ℕ) (s : Stepped) → n < 65536 →
-    step.as_outcome s left ≡ step.step_of call pdu lent →
-    (pdu_of (after ts) n c (step.answer_number s.answer) b).answer ≡ 0 →
-    (answers_in (take (pdu_of (after ts) n c (step.answer_number s.answer) b).count (pdu_of (after ts) n c (step.answer_number s.answer) b).buffer)
+    (ts : List Turn) (n c : ℕ) (b : List ℕ) (call : Call) (pdu lent left : List ℕ) (s : Result Stepped Refusal) → n < 65536 →
+    step.as_outcome call s left ≡ step.step_of call pdu lent →
+    (pdu_of (after ts) n c (step_number s) b).answer ≡ 0 →
+    (answers_in (take (pdu_of (after ts) n c (step_number s) b).count (pdu_of (after ts) n c (step_number s) b).buffer)
     ≡ record { number = n; verdict = cond (eqb (step.step_of call pdu lent).answer 0) accept reject } ∷ [])
-    × ((pdu_of (after ts) n c (step.answer_number s.answer) b).rooms ≡ after ts)
+    × ((pdu_of (after ts) n c (step_number s) b).rooms ≡ after ts)
 
 -- and it is answered, whatever waits, but for its number, a call that is no identifier, or want of room
 abbrev pub IndividualTaken : Type 0
@@ -163,4 +162,6 @@ Enough = (ts : List Turn) (t : Turn) → room t ≤ length (lent_by t) → (outc
 
 -- two results that it allows are equal, with every byte of the buffer
 abbrev pub Determined : Type 0
-Determined = (o : Outcome) (r₁ r₂ : Answered) (b₁ b₂ : List ℕ) → as_outcome r₁ b₁ ≡ o → as_outcome r₂ b₂ ≡ o → (r₁ ≡ r₂) × (b₁ ≡ b₂)
+Determined =
+    (o : Outcome) (rooms : List Room) (r₁ r₂ : Result Answered ChannelRefusal) (b₁ b₂ : List ℕ) → as_outcome rooms r₁ b₁ ≡ o → as_outcome rooms r₂ b₂ ≡ o →
+    (r₁ ≡ r₂) × (b₁ ≡ b₂)

@@ -1,27 +1,29 @@
 -- Questions, decisions and ends: the answers in their order, the rooms then, and what goes out.
-use Rattle.std.specs.Prelude.{ℕ, cond, List, [], ◌∷◌, ◌++◌, leb, eqb, length}
+use Rattle.std.specs.Prelude.{ℕ, cond, List, [], ◌∷◌, ◌++◌, leb, eqb, length, Option, Some, None, Result, Ok, Err}
 use Rattle.std.proofs.lemmas.List.Edits.{sets}
 use Rattle.records.specs.declared.messages.Message.{Message}
+use Rattle.callcontrol.specs.declared.step.Refusal.{Refusal}
+use Rattle.callcontrol.specs.declared.step.Stepped.{Stepped}
+use Rattle.callcontrol.specs.Step.{answer_number}
 use Rattle.callcontrol.specs.Writing.{bytes_of}
 use Rattle.channel.specs.declared.rooms.Wait.{Wait}
 use Rattle.channel.specs.declared.rooms.Room.{Room}
-use Rattle.channel.specs.declared.questions.ChannelAnswer.{ChannelAnswer}
+use Rattle.channel.specs.declared.questions.ChannelRefusal.{ChannelRefusal}
 use Rattle.channel.specs.declared.questions.Answered.{Answered}
-use Rattle.channel.specs.declared.questions.Reply.{Reply}
-use Rattle.channel.specs.declared.questions.Asked.{Asked}
-use Rattle.channel.specs.declared.questions.Decision.{Decision}
+use Rattle.channel.specs.declared.questions.Verdict.{Verdict}
+use Rattle.channel.specs.declared.questions.Rule.{Rule}
+use Rattle.channel.specs.declared.questions.Decided.{Decided}
 use Rattle.channel.specs.Rooms.{free_room, is_free, has_number, waits_for, of_call, some?, rooms_sound, in_first, all_freed}
 
--- the code's answer as the paper's number
-abbrev pub channel_number : ChannelAnswer → ℕ
-channel_number ChannelAnswer.Taken = 0
-channel_number ChannelAnswer.NotSound = 1
-channel_number ChannelAnswer.BadField = 4
-channel_number ChannelAnswer.NumberWaits = 50
-channel_number ChannelAnswer.RoomsFull = 51
-channel_number ChannelAnswer.OwnGroup = 53
-channel_number ChannelAnswer.NoneWaits = 52
-channel_number ChannelAnswer.NoRoom = 7
+-- a refusal's number
+abbrev pub channel_number : ChannelRefusal → ℕ
+channel_number ChannelRefusal.NotSound = 1
+channel_number ChannelRefusal.BadField = 4
+channel_number ChannelRefusal.NumberWaits = 50
+channel_number ChannelRefusal.RoomsFull = 51
+channel_number ChannelRefusal.OwnGroup = 53
+channel_number ChannelRefusal.NoneWaits = 52
+channel_number ChannelRefusal.NoRoom = 7
 
 -- what comes back: the answer's number, the rooms, the count of bytes written, and the lent buffer then
 pub record Outcome : Type 0 where
@@ -30,18 +32,14 @@ pub record Outcome : Type 0 where
   pub count : ℕ
   pub buffer : List ℕ
 
-abbrev pub as_outcome : Answered → List ℕ → Outcome
-as_outcome r buffer = record { answer = channel_number r.answer; rooms = r.rooms; count = r.count; buffer = buffer }
-
 -- a refusal counts 0 bytes, changes no byte and returns the rooms as given
 abbrev pub refusal : ℕ → List Room → List ℕ → Outcome
 refusal n rooms buffer = record { answer = n; rooms = rooms; count = 0; buffer = buffer }
 
-abbrev pub refusing : ChannelAnswer → List Room → Answered
-refusing a rooms = record { answer = a; count = 0; rooms = rooms }
-
-abbrev pub quietly : List Room → Answered
-quietly rooms = record { answer = ChannelAnswer.Taken; count = 0; rooms = rooms }
+-- what the code gives back of some rooms: 0 for what is taken, or a refusal's number
+abbrev pub as_outcome : List Room → Result Answered ChannelRefusal → List ℕ → Outcome
+as_outcome rooms (Ok r) buffer = record { answer = 0; rooms = r.rooms.rooms; count = r.count; buffer = buffer }
+as_outcome rooms (Err e) buffer = refusal (channel_number e) rooms buffer
 
 -- messages into the lent buffer, where they fit, and the rooms that go with them
 unfoldable pub carried : List Room → List Room → List Message → List ℕ → Outcome
@@ -59,6 +57,39 @@ reject = 1
 
 abbrev pub ignore : ℕ
 ignore = 2
+
+abbrev pub verdict_number : Verdict → ℕ
+verdict_number Verdict.Accept = accept
+verdict_number Verdict.Reject = reject
+verdict_number Verdict.Ignore = ignore
+
+-- what a question gets: a verdict at once, a room to wait in, or neither, the rule being open
+pub data Reply : Type 0 where
+  Now : ℕ → Reply
+  Waits : Wait → Reply
+  Open : Reply
+
+-- what is asked, and what a decision is for with the verdict that it gives: unknown for a number that is out of range
+pub data Asked : Type 0 where
+  Is : Reply → Asked
+  Unknown : Asked
+
+pub data Decision : Type 0 where
+  Gives : Wait → ℕ → Decision
+  Unknown : Decision
+
+abbrev pub as_reply : Rule → Reply
+as_reply (Rule.Now v) = Reply.Now (verdict_number v)
+as_reply (Rule.Waits w) = Reply.Waits w
+as_reply Rule.Open = Reply.Open
+
+abbrev pub as_asked : Option Rule → Asked
+as_asked (Some rule) = Asked.Is (as_reply rule)
+as_asked None = Asked.Unknown
+
+abbrev pub as_decision : Option Decided → Decision
+as_decision (Some d) = Decision.Gives d.wait (verdict_number d.verdict)
+as_decision None = Decision.Unknown
 
 -- what is asked. 0, 1: individually addressed, and the step took the PDU, or refused it. 2: group D-SETUP to a group that we aren't calling. 3, 4: to
 -- one that we are calling, with U-SETUP not reported sent and a compatible service, or otherwise. 5, 6, 7: a group addressed PDU of an ongoing call
@@ -113,6 +144,11 @@ ask_of rooms number call asked buffer =
     (cond (leb call 16383) (asked_as (asked_of asked) rooms number call buffer) (refusal 4 rooms buffer))
     (refusal 1 rooms buffer)
 
+-- the number of the step's answer, in what it gave
+abbrev pub step_number : Result Stepped Refusal → ℕ
+step_number (Ok s) = 0
+step_number (Err e) = answer_number e
+
 -- an individually addressed PDU that the step has answered with a number: taken or refused
 abbrev pub asked_by : ℕ → ℕ
 asked_by n = cond (eqb n 0) 0 1
@@ -146,7 +182,3 @@ ended_of rooms c buffer =
     cond (rooms_sound rooms)
     (cond (leb c 16383) (carried rooms (all_freed c rooms) (rejects_in c rooms) buffer) (refusal 4 rooms buffer))
     (refusal 1 rooms buffer)
-
--- how the code counts
-unfoldable pub reject_size : ℕ → Room → ℕ
-reject_size c r = cond (of_call c r) 7 0

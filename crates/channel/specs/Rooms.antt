@@ -1,5 +1,5 @@
 -- The rooms: four, each free or with a question that waits, and what makes them sound.
-use Rattle.std.specs.Prelude.{ℕ, suc, ◌+◌, Bool, true, false, cond, not, ◌&&◌, ◌||◌, List, [], ◌∷◌, leb, eqb, length, get_or}
+use Rattle.std.specs.Prelude.{ℕ, ◌+◌, Bool, true, false, cond, not, ◌&&◌, ◌||◌, List, [], ◌∷◌, leb, eqb, length, get_or}
 use Rattle.channel.specs.declared.rooms.Wait.{Wait}
 use Rattle.channel.specs.declared.rooms.Room.{Room}
 
@@ -56,11 +56,6 @@ apart (r ∷ rs) = every? (apart_from r) rs && apart rs
 -- four rooms, each fits, no number in two
 unfoldable pub rooms_sound : List Room → Bool
 rooms_sound rooms = eqb (length rooms) 4 && (every? room_fits rooms && apart rooms)
-
--- the first room of which something holds, and the number of rooms where it holds of none
-abbrev pub first : (Room → Bool) → List Room → ℕ
-first p [] = 0
-first p (r ∷ rs) = cond (p r) 0 (suc (first p rs))
 
 -- the first room of which something holds gets another content
 abbrev pub in_first : (Room → Bool) → Room → List Room → List Room

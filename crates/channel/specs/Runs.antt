@@ -3,10 +3,7 @@ use Rattle.std.specs.Prelude.{ℕ, zero, suc, ◌+◌, ◌<◌, Bool, false, con
 use Rattle.records.specs.declared.messages.Message.{Message}
 use Rattle.records.specs.Bytes.{number}
 use Rattle.channel.specs.declared.rooms.Room.{Room}
-use Rattle.channel.specs.declared.questions.Reply.{Reply}
-use Rattle.channel.specs.declared.questions.Asked.{Asked}
-use Rattle.channel.specs.declared.questions.Decision.{Decision}
-use Rattle.channel.specs.Questions.{Outcome, asked_of, decision_of, first_out, rejects_in, ask_of, decide_of, ended_of}
+use Rattle.channel.specs.Questions.{Outcome, Reply, Asked, Decision, asked_of, decision_of, first_out, rejects_in, ask_of, decide_of, ended_of}
 
 -- any numbers handed in, any buffer lent
 pub data Turn : Type 0 where

@@ -17,9 +17,8 @@ use Rattle.demands.specs.Runs.{outcome, run}
 use Rattle.demands.proofs.Demands as step-demands
 use Rattle.demands.proofs.Reading.{Reads, bad_length, no_kind_lem, retired, bad_body_lem, is, reads}
 use Rattle.console.specs.declared.route.Aim.{Aim}
-use Rattle.console.specs.declared.route.Route.{Route}
 use Rattle.console.specs.Table.{call_at, table_sound}
-use Rattle.console.specs.Route.{aim_of, route_of}
+use Rattle.console.specs.Route.{Route, aim_of, route_of}
 use Rattle.console.specs.Console.{ConsoleOutcome, placed, at_place, writes_from, routed}
 use Rattle.console.specs.Runs.{ConsoleTurn, console_outcome, lent_behind}
 use Rattle.console.specs.Demands as claims

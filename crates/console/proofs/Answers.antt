@@ -10,8 +10,8 @@ use lib.ListN.{length, drop, length-drop}
 use Rattle.records.specs.declared.events.Event.{Event}
 use Rattle.records.specs.Tables.{Read, taken, refused}
 use Rattle.callcontrol.specs.declared.call.Call.{Call}
-use Rattle.callcontrol.specs.declared.step.Answer.{Answer}
-use Rattle.callcontrol.specs.declared.step.Named.{Named}
+use Rattle.callcontrol.specs.declared.step.Refusal.{Refusal}
+use Rattle.std.specs.Prelude.{Option, Some, None}
 use Rattle.callcontrol.specs.Call.{is_idle}
 use Rattle.callcontrol.specs.Rows.{row_for}
 use Rattle.callcontrol.specs.Writing.{bytes_of}
@@ -21,10 +21,9 @@ use Rattle.demands.proofs.Facts.{apart, left, right, is_not}
 use Rattle.demands.proofs.Reading.{Reads, bad_length, no_kind_lem, retired, bad_body_lem, is, reads}
 use Rattle.demands.proofs.Turns.{by_tests}
 use Rattle.console.specs.declared.route.Aim.{Aim}
-use Rattle.console.specs.declared.route.ConsoleAnswer.{ConsoleAnswer}
-use Rattle.console.specs.declared.route.Route.{Route}
+use Rattle.console.specs.declared.route.ConsoleRefusal.{ConsoleRefusal}
 use Rattle.console.specs.Table.{call_at, holds, some?, lowest}
-use Rattle.console.specs.Route.{console_number, aim_of, aimed, at_named, at_lowest_idle, outgoing, incoming, at_holder, route_of}
+use Rattle.console.specs.Route.{Route, console_number, aim_of, aimed, at_named, at_lowest_idle, outgoing, incoming, at_holder, route_of}
 use Rattle.console.specs.Console.{ConsoleOutcome, at_place, routed, takes, writes, headed}
 use Rattle.console.specs.Runs.{console_outcome, all_fits}
 use Rattle.console.specs.Answers.{place_over, id_held, id_awaited, no_idle_place, none_fits, no_row_there, transmits_there, too_long, console_applies, Answered}
@@ -125,12 +124,12 @@ lowest_is p (x ∷ calls) some = by (p x) refl some (λ rest. lowest_is p calls 
 
 -- ---- an event that is led to a place is of that place's call
 
-abbrev call_named : Aim → Named
-call_named Aim.Place = Named.NoCall
-call_named Aim.Outgoing = Named.NoCall
-call_named (Aim.Incoming i) = Named.NoCall
-call_named (Aim.Held i) = Named.Id i
-call_named Aim.Every = Named.NoCall
+abbrev call_named : Aim → Option ℕ
+call_named Aim.Place = None
+call_named Aim.Outgoing = None
+call_named (Aim.Incoming i) = None
+call_named (Aim.Held i) = Some i
+call_named Aim.Every = None
 
 call_named_lem : (e : Event) → named_in e ≡ call_named (aim_of e)
 call_named_lem (Event.SetupRequest a d q s) = refl
@@ -157,21 +156,21 @@ call_named_lem Event.Break = refl
 call_named_lem Event.Resume = refl
 call_named_lem (Event.Expiry n) = refl
 
-of_no_call : (c : Call) (e : Event) → named_in e ≡ Named.NoCall → other_call c e ≡ false
+of_no_call : (c : Call) (e : Event) → named_in e ≡ None → other_call c e ≡ false
 unfolding other_call
-of_no_call c e n = ap (λ (w : Named). differs c w) n
+of_no_call c e n = ap (λ (w : Option ℕ). differs c w) n
 
-of_holder : (c : Call) (e : Event) (i : ℕ) → named_in e ≡ Named.Id i → holds i c ≡ true → other_call c e ≡ false
+of_holder : (c : Call) (e : Event) (i : ℕ) → named_in e ≡ Some i → holds i c ≡ true → other_call c e ≡ false
 unfolding other_call holds
 of_holder c e i n h =
     let same = eqb-true c.id i (right (not (is_idle c)) (eqb c.id i) h) in
-    ap (λ (w : Named). differs c w) n ∙ ap (λ (x : Bool). not x && (not (eqb c.id 0) || is_idle c)) (eq-eqb i c.id (sym same))
+    ap (λ (w : Option ℕ). differs c w) n ∙ ap (λ (x : Bool). not x && (not (eqb c.id 0) || is_idle c)) (eq-eqb i c.id (sym same))
 
-of_awaiting : (c : Call) (e : Event) (i : ℕ) → named_in e ≡ Named.Id i → holds 0 c ≡ true → other_call c e ≡ false
+of_awaiting : (c : Call) (e : Event) (i : ℕ) → named_in e ≡ Some i → holds 0 c ≡ true → other_call c e ≡ false
 unfolding other_call holds
 of_awaiting c e i n h =
     let busy : is_idle c ≡ false = is_not (is_idle c) (left (not (is_idle c)) (eqb c.id 0) h) in
-    ap (λ (w : Named). differs c w) n
+    ap (λ (w : Option ℕ). differs c w) n
     ∙ (λ j. not (eqb i c.id) && (not (right (not (is_idle c)) (eqb c.id 0) h j) || busy j))
     ∙ and-false (not (eqb i c.id))
 
@@ -185,27 +184,27 @@ module _ (calls : List Call) (eight : length calls ≡ 8) (e : Event) (b : List 
   there : (p : Call → Bool) → ltb (lowest p calls) 8 ≡ some? p calls
   there p = ap (λ (n : ℕ). ltb (lowest p calls) n) (sym eight) ∙ lowest_there p calls
 
-  to_named : (place : ℕ) → named_in e ≡ Named.NoCall → (t : Bool) → ltb place 8 ≡ t
-      → (routed (cond t (Route.To place) (Route.Refused ConsoleAnswer.PlaceOver)) calls e b).answer
-      ≡ cond (leb 8 place) 40 (own (cond t (Route.To place) (Route.Refused ConsoleAnswer.PlaceOver)))
+  to_named : (place : ℕ) → named_in e ≡ None → (t : Bool) → ltb place 8 ≡ t
+      → (routed (cond t (Route.To place) (Route.Refused ConsoleRefusal.PlaceOver)) calls e b).answer
+      ≡ cond (leb 8 place) 40 (own (cond t (Route.To place) (Route.Refused ConsoleRefusal.PlaceOver)))
   to_named place n true h = rw (lt-leb 8 place (ltb-true place 8 h)) (one_place calls e b place (of_no_call _ e n))
   to_named place n false h = rw (le-leb 8 place (ltb-false place 8 h))
 
-  to_idle : named_in e ≡ Named.NoCall → (t : Bool) → some? is_idle calls ≡ t
-      → (routed (cond t (Route.To (lowest is_idle calls)) (Route.Refused ConsoleAnswer.NoIdlePlace)) calls e b).answer
-      ≡ cond (not t) 43 (own (cond t (Route.To (lowest is_idle calls)) (Route.Refused ConsoleAnswer.NoIdlePlace)))
+  to_idle : named_in e ≡ None → (t : Bool) → some? is_idle calls ≡ t
+      → (routed (cond t (Route.To (lowest is_idle calls)) (Route.Refused ConsoleRefusal.NoIdlePlace)) calls e b).answer
+      ≡ cond (not t) 43 (own (cond t (Route.To (lowest is_idle calls)) (Route.Refused ConsoleRefusal.NoIdlePlace)))
   to_idle n true h = one_place calls e b (lowest is_idle calls) (of_no_call _ e n)
   to_idle n false h = refl
 
-  to_new : (p : Call → Bool) (a : ConsoleAnswer) → named_in e ≡ Named.NoCall → (t : Bool) → some? p calls ≡ t
+  to_new : (p : Call → Bool) (a : ConsoleRefusal) → named_in e ≡ None → (t : Bool) → some? p calls ≡ t
       → (routed (cond t (Route.Refused a) (at_lowest_idle calls)) calls e b).answer
       ≡ cond t (console_number a) (cond (not (some? is_idle calls)) 43 (own (cond t (Route.Refused a) (at_lowest_idle calls))))
   unfolding at_lowest_idle
   to_new p a n true h = refl
   to_new p a n false h = rw (there is_idle) (to_idle n (some? is_idle calls) refl)
 
-  to_holder : (i : ℕ) → named_in e ≡ Named.Id i → (t s : Bool) → some? (holds i) calls ≡ t → some? (holds 0) calls ≡ s → {r : Route}
-      → r ≡ cond t (Route.To (lowest (holds i) calls)) (cond s (Route.To (lowest (holds 0) calls)) (Route.Refused (ConsoleAnswer.OfStep Answer.OtherCall)))
+  to_holder : (i : ℕ) → named_in e ≡ Some i → (t s : Bool) → some? (holds i) calls ≡ t → some? (holds 0) calls ≡ s → {r : Route}
+      → r ≡ cond t (Route.To (lowest (holds i) calls)) (cond s (Route.To (lowest (holds 0) calls)) (Route.Refused (ConsoleRefusal.OfStep Refusal.OtherCall)))
       → (routed r calls e b).answer ≡ cond (not t && not s) 5 (own r)
   to_holder i n true s h g goes = rw goes (one_place calls e b (lowest (holds i) calls) (of_holder _ e i n (lowest_is (holds i) calls h)))
   to_holder i n false true h g goes = rw goes (one_place calls e b (lowest (holds 0) calls) (of_awaiting _ e i n (lowest_is (holds 0) calls g)))
@@ -217,8 +216,8 @@ module _ (calls : List Call) (eight : length calls ≡ 8) (e : Event) (b : List 
       (cond (id_held a calls) 41 (cond (id_awaited a calls) 42 (cond (no_idle_place a calls) 43 (cond (none_fits a calls) 5 (own (aimed a calls place))))))
   unfolding at_named outgoing incoming at_holder
   by_aim Aim.Place place n = to_named place n (ltb place 8) refl
-  by_aim Aim.Outgoing place n = rw (there (holds 0)) (to_new (holds 0) ConsoleAnswer.IdAwaited n (some? (holds 0) calls) refl)
-  by_aim (Aim.Incoming i) place n = rw (there (holds i)) (to_new (holds i) ConsoleAnswer.IdHeld n (some? (holds i) calls) refl)
+  by_aim Aim.Outgoing place n = rw (there (holds 0)) (to_new (holds 0) ConsoleRefusal.IdAwaited n (some? (holds 0) calls) refl)
+  by_aim (Aim.Incoming i) place n = rw (there (holds i)) (to_new (holds i) ConsoleRefusal.IdHeld n (some? (holds i) calls) refl)
   by_aim (Aim.Held i) place n = to_holder i n (some? (holds i) calls) (some? (holds 0) calls) refl refl {r = at_holder calls i} (rw (there (holds i), there (holds 0)))
   by_aim Aim.Every place n = every_place calls e b
 

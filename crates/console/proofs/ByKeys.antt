@@ -1,14 +1,14 @@
 -- The keys tell what the records tell, where these are sound: who holds an identifier, who is IDLE, whether two are alike, and so where an event goes.
+use Rattle.std.specs.Prelude.{Result, Ok}
 use Prim.Native.Nat.{ℕ, zero, suc, ◌+◌, ◌<◌, ◌≤◌}
 use mathlib.Core.Path.{◌≡◌, refl, sym, ◌∙◌, ap}
 use mathlib.Core.Bool.{Bool, true, false, cond, not, ◌&&◌, ◌||◌, and-false}
 use mathlib.Core.List.{List, [], ◌∷◌}
 use native.Mathlib.Numerals.{add-one}
 use native.Mathlib.Omega.{arith}
-use borrow.Author.Tests.{ne_eqb, le-leb, lt-leb, leb-true, eqb-true, not-false}
-use lib.Dec.{leb, eqb, lit≤}
-use lib.ListN.{length, drop, set, get_or, drop_of_length-le}
-use lib.Seq.{drop-cons}
+use borrow.Author.Tests.{ne_eqb, le-leb, lt-leb, leb-true, eqb-true}
+use lib.Dec.{leb, ltb, eqb, lit≤}
+use lib.ListN.{length, set}
 use Rattle.records.specs.declared.events.Event.{Event}
 use Rattle.records.specs.declared.events.Event.TheVariants.{SetupRequest, SetupResponse, ReleaseRequest, TxRequest, DCallProceeding, DAlert, DConnect, DConnectAcknowledge, DSetup, DInfo, DTxGranted, DTxCeased, DTxInterrupt, DTxWait, DTxContinue, DCallRestore, DDisconnect, DRelease, ReportSent, ReportFailed, Break, Resume, Expiry}
 use Rattle.records.specs.Tables.{Read, taken, refused, read}
@@ -19,12 +19,12 @@ use Rattle.demands.proofs.Facts.{left, right}
 use Rattle.demands.proofs.Ranges.{Carries, carries, connect_carries, info_carries}
 use Rattle.demands.proofs.Reading.{read_fine}
 use Rattle.console.specs.declared.route.Aim.{Aim}
-use Rattle.console.specs.declared.route.Route.{Route}
-use Rattle.console.specs.declared.route.Led.{Led}
+use Rattle.console.specs.declared.route.Target.{Target}
+use Rattle.console.specs.declared.route.ConsoleRefusal.{ConsoleRefusal}
 use Rattle.console.specs.Table.{call_at, holds, alike, some?, every?, apart, lowest, table_sound}
-use Rattle.console.specs.Route.{aim_of, at_lowest_idle, outgoing, incoming, at_holder, aimed, route_of}
+use Rattle.console.specs.Route.{Route, console_place, or_else, at_named, aim_of, at_lowest_idle, outgoing, incoming, at_holder, aimed, route_of}
 use Rattle.console.specs.Console.{ConsoleOutcome, refuses_at, at_place, everywhere, routed, when_read, console_of}
-use Rattle.console.specs.Keys.{key_of, keys_from, lowest_key, some_key, apart_by, at_idle_by, outgoing_by, incoming_by, at_holder_by, aimed_by, route_by, Lead, goes_to, goes_everywhere, goes_nowhere, as_lead, along, lead_by}
+use Rattle.console.specs.Keys.{key_of, keys_from, lowest_key, some_key, apart_by, held_by, idle_by, at_idle_by, outgoing_by, incoming_by, at_holder_by, aimed_by, route_by, Lead, goes_to, goes_everywhere, goes_nowhere, as_lead, along, lead_by}
 use Rattle.console.proofs.Places.{rest, nothing_left}
 use Rattle.console.proofs.Routing.{to_place, to_all}
 use Rattle.console.proofs.Tables.{sound_all}
@@ -142,6 +142,35 @@ module _ (calls : List Call) (ok : every? sound calls ≡ true) where
   unfolding route_of route_by
   route_by_lem s place e h = aimed_by_lem (aim_of e) place (small e (carries e (read_fine s e h)))
 
+-- a refusal of where it goes has no place
+abbrev NoPlace : Route → Type 0
+NoPlace (Route.To k) = Unit {0}
+NoPlace Route.Everywhere = Unit {0}
+NoPlace (Route.Refused a) = console_place a ≡ 0
+
+or_no_place : (k : ℕ) (r : Route) → NoPlace r → NoPlace (or_else k r)
+or_no_place k r n = by (ltb k 8)
+  where
+    by : (b : Bool) → NoPlace (cond b (Route.To k) r)
+    by true = tt
+    by false = n
+
+either_no_place : (b : Bool) (r s : Route) → NoPlace r → NoPlace s → NoPlace (cond b r s)
+either_no_place true r s n m = n
+either_no_place false r s n m = m
+
+aimed_no_place : (a : Aim) (keys : List ℕ) (place : ℕ) → NoPlace (aimed_by a keys place)
+unfolding at_named at_idle_by outgoing_by incoming_by at_holder_by
+aimed_no_place Aim.Place keys place = or_no_place place _ refl
+aimed_no_place Aim.Outgoing keys place = either_no_place (ltb (held_by 0 keys) 8) _ _ refl (or_no_place (idle_by keys) _ refl)
+aimed_no_place (Aim.Incoming i) keys place = either_no_place (ltb (held_by i keys) 8) _ _ refl (or_no_place (idle_by keys) _ refl)
+aimed_no_place (Aim.Held i) keys place = or_no_place (held_by i keys) _ (or_no_place (held_by 0 keys) _ refl)
+aimed_no_place Aim.Every keys place = tt
+
+pub no_place : (keys : List ℕ) (place : ℕ) (e : Event) {a : ConsoleRefusal} → Route.Refused a ≡ route_by keys place e → console_place a ≡ 0
+unfolding route_by
+no_place keys place e is = rw (← is) at (aimed_no_place (aim_of e) keys place)
+
 -- what comes back by where it leads
 abbrev pub goes : Lead → List Call → List ℕ → ConsoleOutcome
 goes (goes_to k e) calls b = at_place k calls e b
@@ -180,13 +209,14 @@ module _ (calls : List Call) (ok : table_sound calls ≡ true) (place : ℕ) (s 
   pub lead_fits : {l : Lead} → l ≡ lead_by (keys_from 0 calls) place (read events s) → Fitting l
   lead_fits is = rw is (read_fits (read events s) refl)
 
--- what the code knows, where it has tested the table
-pub tested_sound : (calls : List Call) {b : Bool} → b ≡ table_sound calls → not b ≡ false → table_sound calls ≡ true
-tested_sound calls {b} is so = sym is ∙ not-false b so
+-- what the code knows of where the bytes lead, by the table's keys
+module _ (calls : List Call) (place : ℕ) (s : List ℕ) {keys : List ℕ} (is : keys ≡ keys_from 0 calls)
+    {l : Result (Target × Event) ConsoleRefusal} (leads : as_lead l ≡ lead_by keys place (read events s)) where
+  pub led_by : {m : Result (Target × Event) ConsoleRefusal} → l ≡ m → as_lead m ≡ lead_by (keys_from 0 calls) place (read events s)
+  led_by same = ap as_lead (sym same) ∙ leads ∙ ap (λ (ks : List ℕ). lead_by ks place (read events s)) is
 
-pub led_by : (calls : List Call) (place : ℕ) (s : List ℕ) {keys : List ℕ} {l m : Led} → keys ≡ keys_from 0 calls
-    → as_lead l ≡ lead_by keys place (read events s) → l ≡ m → as_lead m ≡ lead_by (keys_from 0 calls) place (read events s)
-led_by calls place s is leads same = ap as_lead (sym same) ∙ leads ∙ ap (λ (ks : List ℕ). lead_by ks place (read events s)) is
+  pub led_to : {t u : Target} {e : Event} → l ≡ Ok (t, e) → t ≡ u → as_lead (Ok (u, e)) ≡ lead_by (keys_from 0 calls) place (read events s)
+  led_to {e = e} same to = led_by (same ∙ ap (λ (t : Target). Ok (t, e)) to)
 
 -- ---- how the code finds them
 
@@ -218,62 +248,3 @@ eight calls n =
 
 pub all_keys : (calls : List Call) (k : ℕ) {keys : List ℕ} → keys ≡ keys_first k calls → k ≡ 8 → length calls ≡ 8 → keys ≡ keys_from 0 calls
 all_keys calls k before all n = before ∙ ap (λ (m : ℕ). keys_first m calls) all ∙ sym (ap (keys_from 0) (eight calls n))
-
--- the lowest key of which p holds, where k of them have been passed
-module _ (p : ℕ → Bool) (keys : List ℕ) where
-  abbrev pub Passed : ℕ → Type 0
-  Passed k = lowest_key p keys ≡ k + lowest_key p (drop k keys)
-
-  rest_keys : (k : ℕ) → k < length keys → drop k keys ≡ get_or keys k 0 ∷ drop (k + 1) keys
-  rest_keys k lt = rw (add-one, drop-cons keys k 0)
-
-  pub found : (k : ℕ) → Passed k → k < length keys → p (get_or keys k 0) ≡ true → k ≡ lowest_key p keys
-  found k h lt is =
-      let e : lowest_key p (drop k keys) ≡ 0 = rw (rest_keys k lt, is) in
-      omega (arith, h, e)
-
-  pub goes_on : (k : ℕ) → Passed k → k < length keys → p (get_or keys k 0) ≡ false → Passed (k + 1)
-  goes_on k h lt is =
-      let e : lowest_key p (drop k keys) ≡ suc (lowest_key p (drop (k + 1) keys)) = rw (rest_keys k lt, is) in
-      omega (arith, h, e)
-
-  pub not_found : (k : ℕ) → Passed k → length keys ≤ k → k ≡ lowest_key p keys
-  not_found k h le =
-      let e : lowest_key p (drop k keys) ≡ 0 = rw (drop_of_length-le keys le) in
-      omega (arith, h, e)
-
--- eight keys, compared pair by pair
-or-false : (b : Bool) → (b || false) ≡ b
-or-false true = refl
-or-false false = refl
-
-and-true : (b : Bool) → (b && true) ≡ b
-and-true true = refl
-and-true false = refl
-
-pub apart_eight : (a b c d e f g h : ℕ) →
-    (not (eqb a b || (eqb a c || (eqb a d || (eqb a e || (eqb a f || (eqb a g || eqb a h))))))
-    && (not (eqb b c || (eqb b d || (eqb b e || (eqb b f || (eqb b g || eqb b h)))))
-    && (not (eqb c d || (eqb c e || (eqb c f || (eqb c g || eqb c h))))
-    && (not (eqb d e || (eqb d f || (eqb d g || eqb d h)))
-    && (not (eqb e f || (eqb e g || eqb e h)) && (not (eqb f g || eqb f h) && not (eqb g h)))))))
-    ≡ apart_by (a ∷ b ∷ c ∷ d ∷ e ∷ f ∷ g ∷ h ∷ [])
-apart_eight a b c d e f g h = rw (or-false (eqb a h), or-false (eqb b h), or-false (eqb c h), or-false (eqb d h), or-false (eqb e h), or-false (eqb f h), or-false (eqb g h), and-true (not (eqb g h)))
-
-pub eight_keys : (keys : List ℕ) → length keys ≡ 8 → keys ≡ get_or keys 0 0 ∷ get_or keys 1 0 ∷ get_or keys 2 0 ∷ get_or keys 3 0 ∷ get_or keys 4 0 ∷ get_or keys 5 0 ∷ get_or keys 6 0 ∷ get_or keys 7 0 ∷ []
-eight_keys keys n =
-    drop-cons keys 0 0 (omega arith)
-    ∙ ap (λ (z : List ℕ). get_or keys 0 0 ∷ z)
-    (drop-cons keys 1 0 (omega arith)
-    ∙ ap (λ (z : List ℕ). get_or keys 1 0 ∷ z)
-    (drop-cons keys 2 0 (omega arith)
-    ∙ ap (λ (z : List ℕ). get_or keys 2 0 ∷ z)
-    (drop-cons keys 3 0 (omega arith)
-    ∙ ap (λ (z : List ℕ). get_or keys 3 0 ∷ z)
-    (drop-cons keys 4 0 (omega arith)
-    ∙ ap (λ (z : List ℕ). get_or keys 4 0 ∷ z)
-    (drop-cons keys 5 0 (omega arith)
-    ∙ ap (λ (z : List ℕ). get_or keys 5 0 ∷ z)
-    (drop-cons keys 6 0 (omega arith)
-    ∙ ap (λ (z : List ℕ). get_or keys 6 0 ∷ z)
-    (drop-cons keys 7 0 (omega arith) ∙ ap (λ (z : List ℕ). get_or keys 7 0 ∷ z) (drop_of_length-le keys {i = 8} (omega arith)))))))))

@@ -23,10 +23,9 @@ use Rattle.demands.specs.Demands.{Restoration, quiet}
 use Rattle.demands.proofs.Facts.{apart}
 use Rattle.demands.proofs.Turns as step-runs
 use Rattle.demands.proofs.Demands as step-demands
-use Rattle.console.specs.declared.route.Route.{Route}
 use Rattle.console.specs.Table.{no_call, call_at, fresh_table, table_sound}
 use Rattle.console.specs.declared.route.Aim.{Aim}
-use Rattle.console.specs.Route.{console_number, aim_of, route_of}
+use Rattle.console.specs.Route.{Route, console_number, aim_of, route_of}
 use Rattle.console.specs.Console.{ConsoleOutcome, placed, at_place, everywhere, writes_from, refuses_at, refuses, console_of}
 use Rattle.console.specs.Runs.{ConsoleTurn, console_outcome, console_next, console_run, lent_behind, went_to, went_in}
 use Rattle.console.specs.Demands as claims

@@ -9,109 +9,129 @@ use native.Mathlib.Omega.{arith}
 use borrow.Author.Tests.{ltb-true, ltb-false}
 use lib.Dec.{ltb, lit<}
 use lib.ListN.{set}
+use Rattle.std.specs.Prelude.{Result, Ok, Err, IfOk}
 use Rattle.records.specs.declared.events.Event.{Event}
 use Rattle.records.proofs.Laws.{by_test}
 use Rattle.callcontrol.specs.declared.call.Call.{Call}
-use Rattle.callcontrol.specs.declared.step.Answer.{Answer}
+use Rattle.records.specs.declared.bodies.Unreadable.{Unreadable}
+use Rattle.callcontrol.specs.declared.step.Refusal.{Refusal}
 use Rattle.callcontrol.specs.declared.step.Stepped.{Stepped}
 use Rattle.callcontrol.specs.Call.{fresh_call}
-use Rattle.callcontrol.specs.Step.{answer_number, refusing, refusal}
+use Rattle.callcontrol.specs.Step.{answer_number, place_in, refusal_at}
 use Rattle.callcontrol.proofs.Determined as step-determined
-use Rattle.console.specs.declared.route.ConsoleAnswer.{ConsoleAnswer}
-use Rattle.console.specs.declared.route.Led.{Led}
+use Rattle.console.specs.declared.route.ConsoleRefusal.{ConsoleRefusal}
+use Rattle.console.specs.declared.route.Target.{Target}
 use Rattle.console.specs.declared.console.ConsoleStepped.{ConsoleStepped}
-use Rattle.console.specs.Route.{console_number}
-use Rattle.console.specs.declared.console.SoFar.{SoFar}
 use Rattle.console.specs.declared.console.AllStepped.{AllStepped}
+use Rattle.console.specs.Route.{console_number, console_place, as_route}
+use Rattle.console.proofs.Refused.{refused_some}
+use Rattle.console.specs.declared.console.SoFar.{SoFar}
 use Rattle.console.specs.Table.{call_at}
-use Rattle.console.specs.Console.{ConsoleOutcome, as_console, takes, next_of, OneMore, LaidAll}
+use Rattle.console.specs.Console.{ConsoleOutcome, as_console, as_everywhere, takes, next_of, OneMore, UpTo, LaidAll}
 use Rattle.console.specs.Keys.{as_lead}
 use Rattle.console.proofs.console.console_step.Reads as console-step-promise
 use Rattle.console.proofs.console.everywhere.Reads as everywhere-promise
 use Rattle.console.proofs.console.own_buffer.Reads as own-buffer-promise
 use Rattle.console.proofs.console.place_step.Reads as place-step-promise
 use Rattle.console.proofs.console.turn.Reads as turn-promise
-use Rattle.console.proofs.route.console_number.Reads as console-number-promise
+use Rattle.console.proofs.route.ConsoleRefusal.number.Reads as console-number-promise
+use Rattle.console.proofs.route.ConsoleRefusal.place.Reads as console-place-promise
 use Rattle.console.proofs.route.aim_of.Reads as aim-of-promise
 use Rattle.console.proofs.route.route_of.Reads as route-of-promise
 use Rattle.console.proofs.route.lead.Reads as lead-promise
 use Rattle.console.proofs.keys.key_of.Reads as key-of-promise
-use Rattle.console.proofs.keys.keys_of.Reads as keys-of-promise
-use Rattle.console.proofs.keys.apart_by.Reads as apart-by-promise
-use Rattle.console.proofs.keys.held_by.Reads as held-by-promise
-use Rattle.console.proofs.keys.idle_by.Reads as idle-by-promise
+use Rattle.console.proofs.keys.Keys.of.Reads as keys-of-promise
+use Rattle.console.proofs.keys.Keys.apart.Reads as apart-by-promise
+use Rattle.console.proofs.keys.Keys.held_by.Reads as held-by-promise
+use Rattle.console.proofs.keys.Keys.lowest_idle.Reads as idle-by-promise
 use Rattle.console.proofs.table.table_sound.Reads as table-sound-promise
 
--- no two of the step's answers have one number, and none has a number of the console's own
-step_same : (a b : Answer) → answer_number a ≡ answer_number b → a ≡ b
-step_same a b e =
-    let w = step-determined.step (refusal (answer_number b) fresh_call []) (refusing a 0 fresh_call) (refusing b 0 fresh_call) [] []
-    (ap (λ (n : ℕ). refusal n fresh_call []) e) refl in
-    ap (λ (r : Stepped). r.answer) w.0
+-- no two of the step's refusals have one number and place, and none has a number of the console's own
+step_same : (a b : Refusal) → answer_number a ≡ answer_number b → place_in a ≡ place_in b → a ≡ b
+step_same a b e p =
+    let same : ◌≡◌ {A = Result Stepped Refusal} (Err a) (Err b) =
+    (step-determined.step fresh_call (refusal_at (answer_number b) (place_in b) fresh_call []) (Err a) (Err b) [] [] (λ i. refusal_at (e i) (p i) fresh_call []) refl).0 in
+    cc
 
-below_40 : (a : Answer) → answer_number a < 40
-below_40 Answer.Taken = lit< tt
-below_40 Answer.NotSound = lit< tt
-below_40 Answer.BadLength = lit< tt
-below_40 Answer.UnknownKind = lit< tt
-below_40 Answer.Retired = lit< tt
-below_40 Answer.BadBody = lit< tt
-below_40 Answer.OtherCall = lit< tt
-below_40 Answer.NoRow = lit< tt
-below_40 Answer.NoRoom = lit< tt
-below_40 Answer.OwnTransmission = lit< tt
+below_40 : (a : Refusal) → answer_number a < 40
+below_40 Refusal.NotSound = lit< tt
+below_40 (Refusal.Unreadable Unreadable.BadLength) = lit< tt
+below_40 (Refusal.Unreadable Unreadable.UnknownKind) = lit< tt
+below_40 (Refusal.Unreadable Unreadable.Retired) = lit< tt
+below_40 (Refusal.Unreadable (Unreadable.BadBody p)) = lit< tt
+below_40 Refusal.OtherCall = lit< tt
+below_40 Refusal.NoRow = lit< tt
+below_40 Refusal.NoRoom = lit< tt
+below_40 Refusal.OwnTransmission = lit< tt
 
-same : (a b : ConsoleAnswer) → console_number a ≡ console_number b → a ≡ b
-same (ConsoleAnswer.OfStep a) (ConsoleAnswer.OfStep b) e = ap ConsoleAnswer.OfStep (step_same a b e)
-same (ConsoleAnswer.OfStep a) ConsoleAnswer.PlaceOver e = absurd (omega (arith, below_40 a, e))
-same (ConsoleAnswer.OfStep a) ConsoleAnswer.IdHeld e = absurd (omega (arith, below_40 a, e))
-same (ConsoleAnswer.OfStep a) ConsoleAnswer.IdAwaited e = absurd (omega (arith, below_40 a, e))
-same (ConsoleAnswer.OfStep a) ConsoleAnswer.NoIdlePlace e = absurd (omega (arith, below_40 a, e))
-same ConsoleAnswer.PlaceOver (ConsoleAnswer.OfStep b) e = absurd (omega (arith, below_40 b, e))
-same ConsoleAnswer.PlaceOver ConsoleAnswer.PlaceOver e = refl
-same ConsoleAnswer.PlaceOver ConsoleAnswer.IdHeld e = absurd (omega arith)
-same ConsoleAnswer.PlaceOver ConsoleAnswer.IdAwaited e = absurd (omega arith)
-same ConsoleAnswer.PlaceOver ConsoleAnswer.NoIdlePlace e = absurd (omega arith)
-same ConsoleAnswer.IdHeld (ConsoleAnswer.OfStep b) e = absurd (omega (arith, below_40 b, e))
-same ConsoleAnswer.IdHeld ConsoleAnswer.PlaceOver e = absurd (omega arith)
-same ConsoleAnswer.IdHeld ConsoleAnswer.IdHeld e = refl
-same ConsoleAnswer.IdHeld ConsoleAnswer.IdAwaited e = absurd (omega arith)
-same ConsoleAnswer.IdHeld ConsoleAnswer.NoIdlePlace e = absurd (omega arith)
-same ConsoleAnswer.IdAwaited (ConsoleAnswer.OfStep b) e = absurd (omega (arith, below_40 b, e))
-same ConsoleAnswer.IdAwaited ConsoleAnswer.PlaceOver e = absurd (omega arith)
-same ConsoleAnswer.IdAwaited ConsoleAnswer.IdHeld e = absurd (omega arith)
-same ConsoleAnswer.IdAwaited ConsoleAnswer.IdAwaited e = refl
-same ConsoleAnswer.IdAwaited ConsoleAnswer.NoIdlePlace e = absurd (omega arith)
-same ConsoleAnswer.NoIdlePlace (ConsoleAnswer.OfStep b) e = absurd (omega (arith, below_40 b, e))
-same ConsoleAnswer.NoIdlePlace ConsoleAnswer.PlaceOver e = absurd (omega arith)
-same ConsoleAnswer.NoIdlePlace ConsoleAnswer.IdHeld e = absurd (omega arith)
-same ConsoleAnswer.NoIdlePlace ConsoleAnswer.IdAwaited e = absurd (omega arith)
-same ConsoleAnswer.NoIdlePlace ConsoleAnswer.NoIdlePlace e = refl
+same : (a b : ConsoleRefusal) → console_number a ≡ console_number b → console_place a ≡ console_place b → a ≡ b
+same (ConsoleRefusal.OfStep a) (ConsoleRefusal.OfStep b) e p = ap ConsoleRefusal.OfStep (step_same a b e p)
+same (ConsoleRefusal.OfStep a) ConsoleRefusal.PlaceOver e p = absurd (omega (arith, below_40 a, e))
+same (ConsoleRefusal.OfStep a) ConsoleRefusal.IdHeld e p = absurd (omega (arith, below_40 a, e))
+same (ConsoleRefusal.OfStep a) ConsoleRefusal.IdAwaited e p = absurd (omega (arith, below_40 a, e))
+same (ConsoleRefusal.OfStep a) ConsoleRefusal.NoIdlePlace e p = absurd (omega (arith, below_40 a, e))
+same ConsoleRefusal.PlaceOver (ConsoleRefusal.OfStep b) e p = absurd (omega (arith, below_40 b, e))
+same ConsoleRefusal.PlaceOver ConsoleRefusal.PlaceOver e p = refl
+same ConsoleRefusal.PlaceOver ConsoleRefusal.IdHeld e p = absurd (omega arith)
+same ConsoleRefusal.PlaceOver ConsoleRefusal.IdAwaited e p = absurd (omega arith)
+same ConsoleRefusal.PlaceOver ConsoleRefusal.NoIdlePlace e p = absurd (omega arith)
+same ConsoleRefusal.IdHeld (ConsoleRefusal.OfStep b) e p = absurd (omega (arith, below_40 b, e))
+same ConsoleRefusal.IdHeld ConsoleRefusal.PlaceOver e p = absurd (omega arith)
+same ConsoleRefusal.IdHeld ConsoleRefusal.IdHeld e p = refl
+same ConsoleRefusal.IdHeld ConsoleRefusal.IdAwaited e p = absurd (omega arith)
+same ConsoleRefusal.IdHeld ConsoleRefusal.NoIdlePlace e p = absurd (omega arith)
+same ConsoleRefusal.IdAwaited (ConsoleRefusal.OfStep b) e p = absurd (omega (arith, below_40 b, e))
+same ConsoleRefusal.IdAwaited ConsoleRefusal.PlaceOver e p = absurd (omega arith)
+same ConsoleRefusal.IdAwaited ConsoleRefusal.IdHeld e p = absurd (omega arith)
+same ConsoleRefusal.IdAwaited ConsoleRefusal.IdAwaited e p = refl
+same ConsoleRefusal.IdAwaited ConsoleRefusal.NoIdlePlace e p = absurd (omega arith)
+same ConsoleRefusal.NoIdlePlace (ConsoleRefusal.OfStep b) e p = absurd (omega (arith, below_40 b, e))
+same ConsoleRefusal.NoIdlePlace ConsoleRefusal.PlaceOver e p = absurd (omega arith)
+same ConsoleRefusal.NoIdlePlace ConsoleRefusal.IdHeld e p = absurd (omega arith)
+same ConsoleRefusal.NoIdlePlace ConsoleRefusal.IdAwaited e p = absurd (omega arith)
+same ConsoleRefusal.NoIdlePlace ConsoleRefusal.NoIdlePlace e p = refl
 
-same_console : (o : ConsoleOutcome) (r₁ r₂ : ConsoleStepped) (b₁ b₂ : List ℕ) → as_console r₁ b₁ ≡ o → as_console r₂ b₂ ≡ o → (r₁ ≡ r₂) × (b₁ ≡ b₂)
-same_console o r₁ r₂ b₁ b₂ e₁ e₂ =
-    let e : as_console r₁ b₁ ≡ as_console r₂ b₂ = e₁ ∙ sym e₂ in
-    let answer = same r₁.answer r₂.answer (ap (λ (w : ConsoleOutcome). w.answer) e) in
-    let place = ap (λ (w : ConsoleOutcome). w.place) e in
-    let count = ap (λ (w : ConsoleOutcome). w.count) e in
-    let calls = ap (λ (w : ConsoleOutcome). w.calls) e in
-    (λ i. record { answer = answer i; place = place i; count = count i; calls = calls i }, ap (λ (w : ConsoleOutcome). w.buffer) e)
+same_console : (calls : List Call) (o : ConsoleOutcome) (r₁ r₂ : Result ConsoleStepped ConsoleRefusal) (b₁ b₂ : List ℕ) → as_console calls r₁ b₁ ≡ o → as_console calls r₂ b₂ ≡ o
+    → (r₁ ≡ r₂) × (b₁ ≡ b₂)
+same_console calls o r₁ r₂ b₁ b₂ e₁ e₂ = by r₁ r₂ (e₁ ∙ sym e₂)
+  where
+    by : (r₁ r₂ : Result ConsoleStepped ConsoleRefusal) → as_console calls r₁ b₁ ≡ as_console calls r₂ b₂ → (r₁ ≡ r₂) × (b₁ ≡ b₂)
+    by (Ok r) (Ok s) e =
+        let count : r.count ≡ s.count = ap (λ (w : ConsoleOutcome). w.count) e in
+        let after : r.calls ≡ s.calls = ap (λ (w : ConsoleOutcome). w.calls) e in
+        (λ i. Ok (record { count = count i; calls = after i }), ap (λ (w : ConsoleOutcome). w.buffer) e)
+    by (Ok r) (Err b) e = absurd (omega (arith, refused_some b, ap (λ (w : ConsoleOutcome). w.answer) e))
+    by (Err a) (Ok s) e = absurd (omega (arith, refused_some a, ap (λ (w : ConsoleOutcome). w.answer) e))
+    by (Err a) (Err b) e =
+        let own : a ≡ b = same a b (ap (λ (w : ConsoleOutcome). w.answer) e) (ap (λ (w : ConsoleOutcome). w.place) e) in
+        (ap Err own, ap (λ (w : ConsoleOutcome). w.buffer) e)
+
+-- where an event goes, by what its cases stand for
+same_route : (x y : Result Target ConsoleRefusal) → as_route x ≡ as_route y → x ≡ y
+same_route (Ok (Target.Place j)) (Ok (Target.Place k)) h = cc
+same_route (Ok (Target.Place j)) (Ok Target.Everywhere) h = cc
+same_route (Ok (Target.Place j)) (Err b) h = cc
+same_route (Ok Target.Everywhere) (Ok (Target.Place k)) h = cc
+same_route (Ok Target.Everywhere) (Ok Target.Everywhere) h = refl
+same_route (Ok Target.Everywhere) (Err b) h = cc
+same_route (Err a) (Ok (Target.Place k)) h = cc
+same_route (Err a) (Ok Target.Everywhere) h = cc
+same_route (Err a) (Err b) h = cc
 
 -- where an event leads, by what its cases stand for
-same_lead : (x y : Led) → as_lead x ≡ as_lead y → x ≡ y
-same_lead (Led.To k e) (Led.To l f) h = cc
-same_lead (Led.To k e) (Led.Everywhere f) h = absurd (let z : ◌≡◌ {A = ℕ} 0 1 = cc in omega arith)
-same_lead (Led.To k e) (Led.Refused b n) h = absurd (let z : ◌≡◌ {A = ℕ} 0 1 = cc in omega arith)
-same_lead (Led.Everywhere e) (Led.To l f) h = absurd (let z : ◌≡◌ {A = ℕ} 0 1 = cc in omega arith)
-same_lead (Led.Everywhere e) (Led.Everywhere f) h = cc
-same_lead (Led.Everywhere e) (Led.Refused b n) h = absurd (let z : ◌≡◌ {A = ℕ} 0 1 = cc in omega arith)
-same_lead (Led.Refused a m) (Led.To l f) h = absurd (let z : ◌≡◌ {A = ℕ} 0 1 = cc in omega arith)
-same_lead (Led.Refused a m) (Led.Everywhere f) h = absurd (let z : ◌≡◌ {A = ℕ} 0 1 = cc in omega arith)
-same_lead (Led.Refused a m) (Led.Refused b n) h =
+same_lead : (x y : Result (Target × Event) ConsoleRefusal) → as_lead x ≡ as_lead y → x ≡ y
+same_lead (Ok (Target.Place k, e)) (Ok (Target.Place l, f)) h = cc
+same_lead (Ok (Target.Place k, e)) (Ok (Target.Everywhere, f)) h = cc
+same_lead (Ok (Target.Place k, e)) (Err b) h = cc
+same_lead (Ok (Target.Everywhere, e)) (Ok (Target.Place l, f)) h = cc
+same_lead (Ok (Target.Everywhere, e)) (Ok (Target.Everywhere, f)) h = cc
+same_lead (Ok (Target.Everywhere, e)) (Err b) h = cc
+same_lead (Err a) (Ok (Target.Place l, f)) h = cc
+same_lead (Err a) (Ok (Target.Everywhere, f)) h = cc
+same_lead (Err a) (Err b) h =
     let number : console_number a ≡ console_number b = cc in
-    let answer = same a b number in
-    let place : m ≡ n = cc in
-    cc
+    let place : console_place a ≡ console_place b = cc in
+    ap Err (same a b number place)
 
 -- ---- the functions
 
@@ -128,42 +148,57 @@ step_at calls k e p own r₁ r₂ t₁ t₂ b₁ b₂ e₁ e₂ =
     (λ i. record { upto = m.0 i; size = m.1.0 i }, (e₁.0 ∙ sym e₂.0, m.1.1))
 
 -- all places: `upto` is the least number behind which none takes the event
-module _ (calls : List Call) (e : Event) (buffer : List ℕ) where
-  not_below : (r₁ r₂ : AllStepped) (b₁ b₂ : List ℕ) → LaidAll r₁ b₁ calls e buffer → LaidAll r₂ b₂ calls e buffer → r₁.upto < r₂.upto → ⊥
-  not_below r₁ r₂ b₁ b₂ m n lt =
+module _ (calls : List Call) (e : Event) where
+  not_below : (u₁ u₂ : ℕ) → UpTo u₁ calls e → UpTo u₂ calls e → u₁ < u₂ → ⊥
+  not_below u₁ u₂ m n lt =
       let w = n.within in
-      let takes_it : takes e (call_at calls (r₂.upto - 1)) ≡ true = n.tight (r₂.upto - 1) (omega arith) in
-      let leaves_it : takes e (call_at calls (r₂.upto - 1)) ≡ false = m.behind (r₂.upto - 1) (omega arith) (omega arith) in
+      let takes_it : takes e (call_at calls (u₂ - 1)) ≡ true = n.tight (u₂ - 1) (omega arith) in
+      let leaves_it : takes e (call_at calls (u₂ - 1)) ≡ false = m.behind (u₂ - 1) (omega arith) (omega arith) in
       let z : ◌≡◌ {A = ℕ} 0 1 = ap (λ (b : Bool). cond b 0 1) (sym takes_it ∙ leaves_it) in
       omega arith
 
-  same_upto : (r₁ r₂ : AllStepped) (b₁ b₂ : List ℕ) → LaidAll r₁ b₁ calls e buffer → LaidAll r₂ b₂ calls e buffer → r₁.upto ≡ r₂.upto
-  same_upto r₁ r₂ b₁ b₂ m n =
-      by_test (ltb r₁.upto r₂.upto) (λ b. absurd (not_below r₁ r₂ b₁ b₂ m n (ltb-true r₁.upto r₂.upto b)))
-      (λ b. by_test (ltb r₂.upto r₁.upto) (λ c. absurd (not_below r₂ r₁ b₂ b₁ n m (ltb-true r₂.upto r₁.upto c)))
-      (λ c. let x = ltb-false r₁.upto r₂.upto b in let y = ltb-false r₂.upto r₁.upto c in omega arith))
+  same_upto : (u₁ u₂ : ℕ) → UpTo u₁ calls e → UpTo u₂ calls e → u₁ ≡ u₂
+  same_upto u₁ u₂ m n =
+      by_test (ltb u₁ u₂) (λ b. absurd (not_below u₁ u₂ m n (ltb-true u₁ u₂ b)))
+      (λ b. by_test (ltb u₂ u₁) (λ c. absurd (not_below u₂ u₁ n m (ltb-true u₂ u₁ c)))
+      (λ c. let x = ltb-false u₁ u₂ b in let y = ltb-false u₂ u₁ c in omega arith))
 
-  pub put_all : (r₁ r₂ : AllStepped) (b₁ b₂ : List ℕ) → LaidAll r₁ b₁ calls e buffer → LaidAll r₂ b₂ calls e buffer → (r₁ ≡ r₂) × (b₁ ≡ b₂)
-  put_all r₁ r₂ b₁ b₂ m n =
-      let upto = same_upto r₁ r₂ b₁ b₂ m n in
+  pub put_all : (buffer : List ℕ) (r₁ r₂ : SoFar) (t₁ t₂ : List Call) (b₁ b₂ : List ℕ) → LaidAll r₁ t₁ b₁ calls e buffer → LaidAll r₂ t₂ b₂ calls e buffer → (r₁ ≡ r₂) × ((t₁ ≡ t₂) × (b₁ ≡ b₂))
+  put_all buffer r₁ r₂ t₁ t₂ b₁ b₂ m n =
+      let upto = same_upto r₁.upto r₂.upto m.last n.last in
       let size = m.size ∙ sym n.size in
-      let records = m.records ∙ sym n.records in
-      (λ i. record { upto = upto i; size = size i; calls = records i }, m.bytes ∙ sym n.bytes)
+      (λ i. record { upto = upto i; size = size i }, (m.records ∙ sym n.records, m.bytes ∙ sym n.bytes))
+
+  same_everywhere : (o : ConsoleOutcome) (r₁ r₂ : Result AllStepped ConsoleRefusal) (b₁ b₂ : List ℕ) → as_everywhere calls r₁ b₁ ≡ o → IfOk r₁ (λ r. UpTo r.upto calls e)
+      → as_everywhere calls r₂ b₂ ≡ o → IfOk r₂ (λ r. UpTo r.upto calls e) → (r₁ ≡ r₂) × (b₁ ≡ b₂)
+  same_everywhere o r₁ r₂ b₁ b₂ e₁ u₁ e₂ u₂ = by r₁ r₂ (e₁ ∙ sym e₂) u₁ u₂
+    where
+      by : (r₁ r₂ : Result AllStepped ConsoleRefusal) → as_everywhere calls r₁ b₁ ≡ as_everywhere calls r₂ b₂ → IfOk r₁ (λ r. UpTo r.upto calls e) → IfOk r₂ (λ r. UpTo r.upto calls e) → (r₁ ≡ r₂) × (b₁ ≡ b₂)
+      by (Ok r) (Ok s) e u v =
+          let upto : r.upto ≡ s.upto = same_upto r.upto s.upto u v in
+          let count : r.count ≡ s.count = ap (λ (w : ConsoleOutcome). w.count) e in
+          let after : r.calls ≡ s.calls = ap (λ (w : ConsoleOutcome). w.calls) e in
+          (λ i. Ok (record { upto = upto i; count = count i; calls = after i }), ap (λ (w : ConsoleOutcome). w.buffer) e)
+      by (Ok r) (Err b) e u v = absurd (omega (arith, refused_some b, ap (λ (w : ConsoleOutcome). w.answer) e))
+      by (Err a) (Ok s) e u v = absurd (omega (arith, refused_some a, ap (λ (w : ConsoleOutcome). w.answer) e))
+      by (Err a) (Err b) e u v =
+          let own : a ≡ b = same a b (ap (λ (w : ConsoleOutcome). w.answer) e) (ap (λ (w : ConsoleOutcome). w.place) e) in
+          (ap Err own, ap (λ (w : ConsoleOutcome). w.buffer) e)
 
 pub console_step : (κs : _) (a : _) (r₁ r₂ : _) (e₁ e₂ : _) → console-step-promise.Learnt κs a r₁ e₁ → console-step-promise.Learnt κs a r₂ e₂ → (r₁ ≡ r₂) × (e₁.1.1.1.0.now ≡ e₂.1.1.1.0.now)
-console_step κs a r₁ r₂ e₁ e₂ p q = same_console _ r₁ r₂ _ _ p q
+console_step κs a r₁ r₂ e₁ e₂ p q = same_console _ _ r₁ r₂ _ _ p q
 
 pub everywhere : (κs : _) (a : _) (r₁ r₂ : _) (e₁ e₂ : _) → everywhere-promise.Learnt κs a r₁ e₁ → everywhere-promise.Learnt κs a r₂ e₂ → (r₁ ≡ r₂) × (e₁.1.1.0.now ≡ e₂.1.1.0.now)
-everywhere κs a r₁ r₂ e₁ e₂ p q = same_console _ r₁ r₂ _ _ p q
+everywhere κs a r₁ r₂ e₁ e₂ p q = same_everywhere _ _ _ r₁ r₂ _ _ p.0 p.1 q.0 q.1
 
 pub place_step : (κs : _) (a : _) (r₁ r₂ : _) (e₁ e₂ : _) → place-step-promise.Learnt κs a r₁ e₁ → place-step-promise.Learnt κs a r₂ e₂ → (r₁ ≡ r₂) × (e₁.1.1.1.0.now ≡ e₂.1.1.1.0.now)
-place_step κs a r₁ r₂ e₁ e₂ p q = step-determined.step _ r₁ r₂ _ _ p q
+place_step κs a r₁ r₂ e₁ e₂ p q = step-determined.step _ _ r₁ r₂ _ _ p q
 
-pub turn : (κs : _) (a : _) (r₁ r₂ : _) (e₁ e₂ : _) → turn-promise.Learnt κs a r₁ e₁ → turn-promise.Learnt κs a r₂ e₂ → (r₁ ≡ r₂) × (e₁.1.1.1.1.0.now ≡ e₂.1.1.1.1.0.now)
+pub turn : (κs : _) (a : _) (r₁ r₂ : _) (e₁ e₂ : _) → turn-promise.Learnt κs a r₁ e₁ → turn-promise.Learnt κs a r₂ e₂
+    → (r₁ ≡ r₂) × ((e₁.0.now ≡ e₂.0.now) × (e₁.1.1.1.1.0.now ≡ e₂.1.1.1.1.0.now))
 turn κs a r₁ r₂ e₁ e₂ p q =
     let m = same_more _ _ _ _ _ r₁.upto r₂.upto r₁.size r₂.size _ _ p.1 q.1 in
-    let call = p.0 ∙ sym q.0 in
-    (λ i. record { upto = m.0 i; size = m.1.0 i; call = call i }, m.1.1)
+    (λ i. record { upto = m.0 i; size = m.1.0 i }, (p.0 ∙ sym q.0, m.1.1))
 
 pub own_buffer : (κs : _) (a : _) (r₁ r₂ : _) (e₁ e₂ : _) → own-buffer-promise.Learnt κs a r₁ e₁ → own-buffer-promise.Learnt κs a r₂ e₂ → r₁ ≡ r₂
 own_buffer κs a r₁ r₂ e₁ e₂ p q = p.0 ∙ sym q.0
@@ -171,17 +206,20 @@ own_buffer κs a r₁ r₂ e₁ e₂ p q = p.0 ∙ sym q.0
 pub console_number_lem : (κs : _) (a : _) (r₁ r₂ : _) (e₁ e₂ : _) → console-number-promise.Learnt κs a r₁ e₁ → console-number-promise.Learnt κs a r₂ e₂ → r₁ ≡ r₂
 console_number_lem κs a r₁ r₂ e₁ e₂ p q = p.0 ∙ sym q.0
 
+pub console_place_lem : (κs : _) (a : _) (r₁ r₂ : _) (e₁ e₂ : _) → console-place-promise.Learnt κs a r₁ e₁ → console-place-promise.Learnt κs a r₂ e₂ → r₁ ≡ r₂
+console_place_lem κs a r₁ r₂ e₁ e₂ p q = p ∙ sym q
+
 pub aim_of : (κs : _) (a : _) (r₁ r₂ : _) (e₁ e₂ : _) → aim-of-promise.Learnt κs a r₁ e₁ → aim-of-promise.Learnt κs a r₂ e₂ → r₁ ≡ r₂
 aim_of κs a r₁ r₂ e₁ e₂ p q = p ∙ sym q
 
 pub route_of : (κs : _) (a : _) (r₁ r₂ : _) (e₁ e₂ : _) → route-of-promise.Learnt κs a r₁ e₁ → route-of-promise.Learnt κs a r₂ e₂ → r₁ ≡ r₂
-route_of κs a r₁ r₂ e₁ e₂ p q = p ∙ sym q
+route_of κs a r₁ r₂ e₁ e₂ p q = same_route r₁ r₂ (p ∙ sym q)
 
 pub key_of_lem : (κs : _) (a : _) (r₁ r₂ : _) (e₁ e₂ : _) → key-of-promise.Learnt κs a r₁ e₁ → key-of-promise.Learnt κs a r₂ e₂ → r₁ ≡ r₂
 key_of_lem κs a r₁ r₂ e₁ e₂ p q = p ∙ sym q
 
 pub keys_of : (κs : _) (a : _) (r₁ r₂ : _) (e₁ e₂ : _) → keys-of-promise.Learnt κs a r₁ e₁ → keys-of-promise.Learnt κs a r₂ e₂ → r₁ ≡ r₂
-keys_of κs a r₁ r₂ e₁ e₂ p q = p ∙ sym q
+keys_of κs a r₁ r₂ e₁ e₂ p q = λ i. record { each = (p ∙ sym q) i }
 
 pub apart_by_lem : (κs : _) (a : _) (r₁ r₂ : _) (e₁ e₂ : _) → apart-by-promise.Learnt κs a r₁ e₁ → apart-by-promise.Learnt κs a r₂ e₂ → r₁ ≡ r₂
 apart_by_lem κs a r₁ r₂ e₁ e₂ p q = p ∙ sym q

@@ -22,7 +22,6 @@ use Rattle.callcontrol.specs.Step.{Outcome, refusal, other_call, over_transmissi
 use Rattle.callcontrol.proofs.Laying.{messages_small, size-append}
 use Rattle.console.specs.declared.route.Aim.{Aim}
 use Rattle.console.specs.declared.console.SoFar.{SoFar}
-use Rattle.console.specs.declared.console.AllStepped.{AllStepped}
 use Rattle.console.specs.Table.{no_call, call_at, some?}
 use Rattle.console.specs.Route.{aim_of}
 use Rattle.console.specs.Console.{behind, writes, placed, takes, part, writes_from, next_of, all_next, headed, OneMore, LaidAll, ConsoleOutcome, everywhere, refuses}
@@ -113,29 +112,29 @@ part_few k c e false t = rw (part_size c e k false t) (omega arith)
 
 -- only BREAK and RESUME are for every place
 pub every_is : (P : Event → Type 0) → P Event.Break → P Event.Resume → (e : Event) → aim_of e ≡ Aim.Every → P e
-every_is P b r (Event.SetupRequest a d q s) h = let x : ◌≡◌ {A = ℕ} 0 1 = cc h in absurd (omega arith)
-every_is P b r Event.SetupResponse h = let x : ◌≡◌ {A = ℕ} 0 1 = cc h in absurd (omega arith)
-every_is P b r Event.ReleaseRequest h = let x : ◌≡◌ {A = ℕ} 0 1 = cc h in absurd (omega arith)
-every_is P b r (Event.TxRequest k) h = let x : ◌≡◌ {A = ℕ} 0 1 = cc h in absurd (omega arith)
-every_is P b r (Event.DCallProceeding i) h = let x : ◌≡◌ {A = ℕ} 0 1 = cc h in absurd (omega arith)
-every_is P b r (Event.DAlert i) h = let x : ◌≡◌ {A = ℕ} 0 1 = cc h in absurd (omega arith)
-every_is P b r (Event.DConnect i g d o s) h = let x : ◌≡◌ {A = ℕ} 0 1 = cc h in absurd (omega arith)
-every_is P b r (Event.DConnectAcknowledge i g o) h = let x : ◌≡◌ {A = ℕ} 0 1 = cc h in absurd (omega arith)
-every_is P b r (Event.DSetup i a d) h = let x : ◌≡◌ {A = ℕ} 0 1 = cc h in absurd (omega arith)
-every_is P b r (Event.DInfo i u o d s) h = let x : ◌≡◌ {A = ℕ} 0 1 = cc h in absurd (omega arith)
-every_is P b r (Event.DTxGranted i g) h = let x : ◌≡◌ {A = ℕ} 0 1 = cc h in absurd (omega arith)
-every_is P b r (Event.DTxCeased i) h = let x : ◌≡◌ {A = ℕ} 0 1 = cc h in absurd (omega arith)
-every_is P b r (Event.DTxInterrupt i g) h = let x : ◌≡◌ {A = ℕ} 0 1 = cc h in absurd (omega arith)
-every_is P b r (Event.DTxWait i) h = let x : ◌≡◌ {A = ℕ} 0 1 = cc h in absurd (omega arith)
-every_is P b r (Event.DTxContinue i k) h = let x : ◌≡◌ {A = ℕ} 0 1 = cc h in absurd (omega arith)
-every_is P b r (Event.DCallRestore i g s o) h = let x : ◌≡◌ {A = ℕ} 0 1 = cc h in absurd (omega arith)
-every_is P b r (Event.DDisconnect i) h = let x : ◌≡◌ {A = ℕ} 0 1 = cc h in absurd (omega arith)
-every_is P b r (Event.DRelease i) h = let x : ◌≡◌ {A = ℕ} 0 1 = cc h in absurd (omega arith)
-every_is P b r Event.ReportSent h = let x : ◌≡◌ {A = ℕ} 0 1 = cc h in absurd (omega arith)
-every_is P b r Event.ReportFailed h = let x : ◌≡◌ {A = ℕ} 0 1 = cc h in absurd (omega arith)
+every_is P b r (Event.SetupRequest a d q s) h = cc
+every_is P b r Event.SetupResponse h = cc
+every_is P b r Event.ReleaseRequest h = cc
+every_is P b r (Event.TxRequest k) h = cc
+every_is P b r (Event.DCallProceeding i) h = cc
+every_is P b r (Event.DAlert i) h = cc
+every_is P b r (Event.DConnect i g d o s) h = cc
+every_is P b r (Event.DConnectAcknowledge i g o) h = cc
+every_is P b r (Event.DSetup i a d) h = cc
+every_is P b r (Event.DInfo i u o d s) h = cc
+every_is P b r (Event.DTxGranted i g) h = cc
+every_is P b r (Event.DTxCeased i) h = cc
+every_is P b r (Event.DTxInterrupt i g) h = cc
+every_is P b r (Event.DTxWait i) h = cc
+every_is P b r (Event.DTxContinue i k) h = cc
+every_is P b r (Event.DCallRestore i g s o) h = cc
+every_is P b r (Event.DDisconnect i) h = cc
+every_is P b r (Event.DRelease i) h = cc
+every_is P b r Event.ReportSent h = cc
+every_is P b r Event.ReportFailed h = cc
 every_is P b r Event.Break h = b
 every_is P b r Event.Resume h = r
-every_is P b r (Event.Expiry n) h = let x : ◌≡◌ {A = ℕ} 0 1 = cc h in absurd (omega arith)
+every_is P b r (Event.Expiry n) h = cc
 
 -- they are of no call, and never over own transmission
 pub ours : (c : Call) (e : Event) → aim_of e ≡ Aim.Every → other_call c e ≡ false
@@ -211,22 +210,22 @@ module _
       let at = passed.size in
       put_whole own o.buffer at ∙ ap (λ (z : List ℕ). take at own ++ z) placing.buffer ∙ stored_part own (bytes_of (part k c e)) at room
 
-  turn_by : {n upto : ℕ} → n ≡ o.answer → upto ≡ cond (eqb n 0) (k + 1) passed.upto
-      → (o.call ≡ next_of e c) × OneMore upto (passed.size + o.count) written k c e passed own
-  turn_by number last = (
+  turn_by : {upto size : ℕ} → upto ≡ cond (eqb o.answer 0) (k + 1) passed.upto → size ≡ passed.size + o.count
+      → (o.call ≡ next_of e c) × OneMore upto size written k c e passed own
+  turn_by last behind = (
     placing.call,
     record {
-      last = last ∙ ap (λ (x : Bool). cond x (k + 1) passed.upto) (ap (λ (x : ℕ). eqb x 0) number ∙ placing.answer);
-      behind = ap (λ (m : ℕ). passed.size + m) placing.count;
+      last = last ∙ ap (λ (x : Bool). cond x (k + 1) passed.upto) placing.answer;
+      behind = behind ∙ ap (λ (m : ℕ). passed.size + m) placing.count;
       bytes = laid_behind;
     },
   )
 
-  pub turn_taken : {n : ℕ} → n ≡ o.answer → n ≡ 0 → (o.call ≡ next_of e c) × OneMore (k + 1) (passed.size + o.count) written k c e passed own
-  turn_taken {n} number none = turn_by number (sym (ap (λ (x : Bool). cond x (k + 1) passed.upto) (eq-eqb n 0 none)))
+  pub turn_taken : o.answer ≡ 0 → (o.call ≡ next_of e c) × OneMore (k + 1) (passed.size + o.count) written k c e passed own
+  turn_taken none = turn_by (sym (ap (λ (x : Bool). cond x (k + 1) passed.upto) (eq-eqb o.answer 0 none))) refl
 
-  pub turn_left : {n : ℕ} → n ≡ o.answer → (n ≡ 0 → ⊥) → (o.call ≡ next_of e c) × OneMore passed.upto (passed.size + o.count) written k c e passed own
-  turn_left {n} number other = turn_by number (sym (ap (λ (x : Bool). cond x (k + 1) passed.upto) (ne_eqb n 0 other)))
+  pub turn_left : (o.answer ≡ 0 → ⊥) → o.count ≡ 0 → (o.call ≡ next_of e c) × OneMore passed.upto passed.size written k c e passed own
+  turn_left other none = turn_by (sym (ap (λ (x : Bool). cond x (k + 1) passed.upto) (ne_eqb o.answer 0 other))) (omega arith)
 
 -- ---- the buffer and the table where k places have been passed
 
@@ -269,16 +268,14 @@ module _
       ap length p.records ∙ length-append (all_next (take k calls) e) (drop k calls)
       ∙ (λ i. (next_length (take k calls) e ∙ length-take-le k calls (omega arith)) i + length-drop k calls i) ∙ omega arith
 
-  pub put_all : length calls ≤ k → LaidAll (record { upto = passed.upto; size = passed.size; calls = after }) b calls e b₀
+  pub put_all : length calls ≤ k → LaidAll passed after b calls e b₀
   put_all le =
       let n = p.eight in
       let w = p.within in
       let all : k ≡ 8 = omega arith in
       record {
         taken = p.taken ∙ ap (λ (z : List Call). some? (takes e) z) (take_all k calls le);
-        within = let l = p.last in omega arith;
-        tight = p.tight;
-        behind = λ j from lt. p.left j from (omega arith);
+        last = record { within = let l = p.last in omega arith; tight = p.tight; behind = λ j from lt. p.left j from (omega arith) };
         size = p.position ∙ ap (λ (z : List Message). length (bytes_of z)) (done_all calls e k le);
         records =
             p.records
@@ -370,9 +367,9 @@ module _
 
 -- ---- an event at every place: the answers
 
-pub own_fits : (calls : List Call) (e : Event) {r : AllStepped} {own own₀ : List ℕ} → LaidAll r own calls e own₀
+pub own_fits : (calls : List Call) (e : Event) {r : SoFar} {after : List Call} {own own₀ : List ℕ} → LaidAll r after own calls e own₀
     → length (bytes_of (writes_from 0 calls e)) ≤ length own₀ → r.size ≤ length own
-own_fits calls e {r} {own} {own₀} laid room =
+own_fits calls e {own = own} {own₀ = own₀} laid room =
     let n = laid.size in
     let l : length own ≡ length own₀ = ap length laid.bytes ∙ length-sets own₀ 0 (bytes_of (writes_from 0 calls e)) in
     omega arith
@@ -381,10 +378,7 @@ own_fits calls e {r} {own} {own₀} laid room =
 pub front_size : (n : ℕ) (own : List ℕ) → n ≤ length own → n ≡ length (take n own)
 front_size n own fits = sym (length-take-le n own fits)
 
-pub front_within : (n : ℕ) (own b : List ℕ) → n ≤ length own → n ≤ length b → length (take n own) ≤ length b
-front_within n own b fits room = let s = front_size n own fits in omega arith
-
-module _ (calls : List Call) (e : Event) (b : List ℕ) {r : AllStepped} {own own₀ : List ℕ} (laid : LaidAll r own calls e own₀) where
+module _ (calls : List Call) (e : Event) (b : List ℕ) {r : SoFar} {after : List Call} {own own₀ : List ℕ} (laid : LaidAll r after own calls e own₀) where
   none_of : r.upto ≡ 0 → some? (takes e) calls ≡ false
   none_of none = sym laid.taken ∙ ap not (eq-eqb r.upto 0 none)
 
@@ -415,7 +409,7 @@ module _ (calls : List Call) (e : Event) (b : List ℕ) {r : AllStepped} {own ow
 
   pub all_take : (r.upto ≡ 0 → ⊥) → r.size ≤ length b → r.size ≤ length own → {now : List ℕ}
       → now ≡ take r.size own ++ drop r.size b
-      → ◌≡◌ {A = ConsoleOutcome} (record { answer = 0; place = 0; calls = r.calls; count = r.size; buffer = now }) (everywhere calls e b)
+      → ◌≡◌ {A = ConsoleOutcome} (record { answer = 0; place = 0; calls = after; count = r.size; buffer = now }) (everywhere calls e b)
   unfolding everywhere
   all_take one room fits is =
       rw (some_of one, le-leb _ _ (rw laid.size at room), laid.records, copied room fits is, laid.size)

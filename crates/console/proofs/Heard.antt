@@ -32,7 +32,7 @@ use Rattle.demands.proofs.Demands.{step_in_range, step_keeps_sound}
 use Rattle.demands.proofs.Facts.{and, left, right}
 use Rattle.demands.proofs.ReadsBack.{read_after_read, stored}
 use Rattle.demands.proofs.Turns as step-turns
-use Rattle.console.specs.declared.route.Route.{Route}
+use Rattle.console.specs.Route.{Route}
 use Rattle.console.specs.Table.{call_at, fresh_table}
 use Rattle.console.specs.Console.{behind, writes, placed, at_place, everywhere, headed}
 use Rattle.console.specs.Runs.{ConsoleTurn, console_outcome, console_next, went_to, went_in, framed_from, framed, named_by, own_from, heard_in}

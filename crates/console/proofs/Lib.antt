@@ -5,10 +5,12 @@ pub mod Demands
 pub mod Determined
 pub mod EachPlace
 pub mod Everywhere
+pub mod Found
 pub mod Heard
 pub mod Named
 pub mod Places
 pub mod Placing
+pub mod Refused
 pub mod Rooms
 pub mod Routing
 pub mod Tables

@@ -1,14 +1,14 @@
 -- The step of one place on a lent buffer: its part behind five bytes, and then those five.
-use Prim.Native.Nat.{ℕ, ◌+◌, ◌-◌, ◌≤◌}
+use Prim.Native.Nat.{ℕ, ◌+◌, ◌-◌, ◌≤◌, min}
 use mathlib.Core.Path.{◌≡◌, refl, sym, ◌∙◌, ap}
 use mathlib.Core.Bool.{Bool, true, false, cond}
 use mathlib.Core.List.{List, [], ◌∷◌, ◌++◌, append-nil, append_assoc}
 use native.Mathlib.Nat.{zero-add}
 use native.Mathlib.Omega.{arith}
-use borrow.Author.Tests.{ne_eqb, le-leb, le-ltb, leb-true, ltb-true, ltb-false}
+use borrow.Author.Tests.{ne_eqb, le-leb, leb-true, ltb-true, ltb-false}
 use borrow.Rule.Slice.PartMut.{put_mid}
 use lib.Dec.{leb, ltb, lit≤}
-use lib.ListN.{length, take, drop, length-append, length-drop, take-append-drop, drop_of_length-le}
+use lib.ListN.{length, set, take, drop, length-append, length-drop, take-append-drop, drop_of_length-le}
 use lib.Seq.{sets, length-sets, sets-eq, take_all, drop_at, drop-drop, length-take-le}
 use Rattle.records.specs.declared.events.Event.{Event}
 use Rattle.records.specs.declared.messages.Message.{Message}
@@ -21,7 +21,9 @@ use Rattle.callcontrol.specs.Rows.{row_for}
 use Rattle.callcontrol.specs.Writing.{messages_in, bytes_of}
 use Rattle.callcontrol.specs.Step.{Outcome, refusal, other_call, over_transmission, carried, decided}
 use Rattle.callcontrol.proofs.Laying.{messages_small}
-use Rattle.console.specs.Console.{behind, writes, placed, headed, head_room}
+use Rattle.std.proofs.lemmas.List.{set-get_or}
+use Rattle.console.specs.Table.{no_call, call_at}
+use Rattle.console.specs.Console.{ConsoleOutcome, behind, writes, placed, at_place}
 
 -- ---- what a step that was decided is
 
@@ -117,19 +119,12 @@ put_whole b y h =
     let none : drop (length b - h) (drop h b) ≡ [] = drop_of_length-le (drop h b) {i = length b - h} (rw (length-drop h b) (omega arith)) in
     rw (none, append-nil y)
 
-short_drop : (b : List ℕ) (t : Bool) → ltb (length b) 5 ≡ t → drop (cond t (length b) 5) b ≡ drop 5 b
-short_drop b true e = drop_of_length-le b {i = length b} (omega arith) ∙ sym (drop_of_length-le b {i = 5} (omega (arith, ltb-true (length b) 5 e)))
-short_drop b false e = refl
-
-head_drop : (b : List ℕ) {h : ℕ} → h ≡ head_room (length b) → drop h b ≡ drop 5 b
-head_drop b is = ap (λ (n : ℕ). drop n b) is ∙ short_drop b (ltb (length b) 5) refl
-
-short_fits : (n : ℕ) (t : Bool) → ltb n 5 ≡ t → cond t n 5 ≤ n
-short_fits n true e = omega arith
-short_fits n false e = ltb-false n 5 e
-
-pub head_fits : (n : ℕ) {h : ℕ} → h ≡ head_room n → h ≤ n
-head_fits n is = rw is (short_fits n (ltb n 5) refl)
+head_drop : (b : List ℕ) {h : ℕ} → h ≡ min (length b) 5 → drop h b ≡ drop 5 b
+head_drop b {h} is = by (ltb (length b) 5) refl
+  where
+    by : (t : Bool) → ltb (length b) 5 ≡ t → drop h b ≡ drop 5 b
+    by true e = let l = ltb-true (length b) 5 e in drop_of_length-le b {i = h} (omega arith) ∙ sym (drop_of_length-le b {i = 5} (omega arith))
+    by false e = let l = ltb-false (length b) 5 e in let five : h ≡ 5 = omega arith in ap (λ (n : ℕ). drop n b) five
 
 -- what is stored at the front
 front : (l vs : List ℕ) → length vs ≤ length l → sets l 0 vs ≡ vs ++ drop (length vs) l
@@ -170,7 +165,7 @@ module _ (k : ℕ) (c : Call) (e : Event) (b : List ℕ) where
   unfolding placed
   placed_takes d = rw d
 
-  module _ {h : ℕ} (head : h ≡ head_room (length b)) {o : Outcome} (step : o ≡ decided c e (take (length b - h) (drop h b))) where
+  module _ {h : ℕ} (head : h ≡ min (length b) 5) {o : Outcome} (step : o ≡ decided c e (take (length b - h) (drop h b))) where
     step_behind : o ≡ decided c e (drop 5 b)
     step_behind = step ∙ ap (λ (z : List ℕ). decided c e z) (part_whole b h ∙ head_drop b head)
 
@@ -210,7 +205,7 @@ module _ (k : ℕ) (c : Call) (e : Event) (b : List ℕ) where
     Written n after = ◌≡◌ {A = Outcome} (record { answer = o.answer; place = o.place; call = o.call; count = n; buffer = after }) (placed k c e b)
 
     -- what a row writes stands behind the record that names the place
-    pub written : {n : ℕ} {after : List ℕ} → (o.count ≡ 0 → ⊥) → n ≡ headed o.count
+    pub written : {n : ℕ} {after : List ℕ} → (o.count ≡ 0 → ⊥) → n ≡ 5 + o.count
         → after ≡ laid (message_bytes (Message.Place k)) (put_mid h (length b - h) b o.buffer) 0 → Written n after
     written {n} {after} some size store = by_step (decides c e (drop 5 b))
       where
@@ -221,9 +216,9 @@ module _ (k : ℕ) (c : Call) (e : Event) (b : List ℕ) where
             let some_bytes : length (bytes_at c e) ≡ 0 → ⊥ = λ w. some (ap (λ (w : Outcome). w.count) is ∙ w) in
             let all : bytes_of (writes k c e) ≡ message_bytes (Message.Place k) ++ bytes_at c e = behind_some k (messages_in (row_for c e)) some_bytes in
             let room : 5 + length (bytes_at c e) ≤ length b = (let l = length-drop 5 b in omega arith) in
-            let five : h ≡ 5 = head ∙ ap (λ (t : Bool). cond t (length b) 5) (le-ltb (length b) 5 (omega arith)) in
+            let five : h ≡ 5 = omega arith in
             let count : n ≡ length (bytes_of (writes k c e)) =
-            size ∙ ap (λ (w : Outcome). headed w.count) is ∙ ap (λ (t : Bool). cond t 0 (5 + length (bytes_at c e))) (ne_eqb _ _ some_bytes)
+            size ∙ ap (λ (w : Outcome). 5 + w.count) is
             ∙ sym (ap length all ∙ length-append (message_bytes (Message.Place k)) (bytes_at c e) ∙ ap (λ (m : ℕ). m + length (bytes_at c e)) (place_size k)) in
             let after_is : after ≡ sets b 0 (bytes_of (writes k c e)) =
             store
@@ -233,3 +228,15 @@ module _ (k : ℕ) (c : Call) (e : Event) (b : List ℕ) where
             ∙ lay_head (message_bytes (Message.Place k)) (bytes_at c e) b (place_size k) room
             ∙ ap (λ (z : List ℕ). sets b 0 z) (sym all) in
             rw (is, count, after_is) (placed_takes d)
+
+-- what the console makes of it: the place's record is stored, and where it is refused it is the one that was there
+module _ (k : ℕ) (calls : List Call) (e : Event) (b : List ℕ) {o : Outcome} (step : o ≡ placed k (call_at calls k) e b) where
+  pub at_place_lem : ◌≡◌ {A = ConsoleOutcome} (record { answer = o.answer; place = o.place; calls = set calls k o.call; count = o.count; buffer = o.buffer }) (at_place k calls e b)
+  unfolding at_place
+  at_place_lem = rw step
+
+  pub at_place_left : o.call ≡ call_at calls k
+      → ◌≡◌ {A = ConsoleOutcome} (record { answer = o.answer; place = o.place; calls = calls; count = o.count; buffer = o.buffer }) (at_place k calls e b)
+  at_place_left same =
+      let stays : set calls k o.call ≡ calls = ap (λ (c : Call). set calls k c) same ∙ set-get_or calls k no_call in
+      (λ i. record { answer = o.answer; place = o.place; calls = sym stays i; count = o.count; buffer = o.buffer }) ∙ at_place_lem

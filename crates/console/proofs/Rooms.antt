@@ -23,16 +23,16 @@ use Rattle.demands.specs.Demands.{Kept}
 use Rattle.demands.proofs.Bound.{slot, slot_size}
 use Rattle.demands.proofs.ByRow.{Row, is_row}
 use Rattle.demands.proofs.Situations.{At, up, broken, restoring, wait, transmit, receive, duplex, none, situated}
+use Rattle.console.specs.declared.console.SoFar.{SoFar}
 use Rattle.console.specs.declared.route.Aim.{Aim}
-use Rattle.console.specs.declared.route.Route.{Route}
 use Rattle.console.specs.Table.{call_at, table_sound}
-use Rattle.console.specs.Route.{aim_of}
-use Rattle.console.specs.Console.{ConsoleOutcome, takes, writes, part, placed, at_place, everywhere, writes_from, console_of}
+use Rattle.console.specs.Route.{Route, aim_of}
+use Rattle.console.specs.Console.{ConsoleOutcome, LaidAll, takes, writes, part, placed, at_place, everywhere, writes_from, console_of}
 use Rattle.console.specs.Runs.{ConsoleTurn, console_outcome}
 use Rattle.console.proofs.Placing.{bytes_at, Decides, decides, placed_refuses, placed_takes}
 use Rattle.console.proofs.Tables.{eight_of}
 use Rattle.console.proofs.Turns.{Everywhere, everywhere_does, none_takes, no_room, all_take, Came, came, unsound, unread, routes}
-use Rattle.console.proofs.Everywhere.{part_size, part_few, every_is}
+use Rattle.console.proofs.Everywhere.{part_size, part_few, every_is, own_fits}
 
 -- ---- how many bytes a row writes, by its parts
 
@@ -125,6 +125,11 @@ every_room calls e every eight =
 pub own_room : (calls : List Call) (e : Event) (own : List ℕ) → aim_of e ≡ Aim.Every → length calls ≡ 8 → 184 ≡ length own
     → length (bytes_of (writes_from 0 calls e)) ≤ length own
 own_room calls e own every eight size = let w = every_room calls e every (omega arith) in omega arith
+
+-- and what was laid is within it
+pub own_laid : (calls : List Call) (e : Event) {r : SoFar} {after : List Call} {own own₀ : List ℕ} → aim_of e ≡ Aim.Every → length calls ≡ 8 → 184 ≡ length own₀
+    → LaidAll r after own calls e own₀ → r.size ≤ length own
+own_laid calls e {own₀ = own₀} every eight size laid = own_fits calls e laid (own_room calls e own₀ every eight size)
 
 module _ (calls : List Call) (eight : length calls ≡ 8) (kept : (k : ℕ) → k < 8 → Kept (call_at calls k)) where
   pub break_room : length (bytes_of (writes_from 0 calls Event.Break)) ≤ 128

@@ -10,10 +10,9 @@ use Rattle.records.specs.declared.events.Event.{Event}
 use Rattle.callcontrol.specs.declared.call.Call.{Call}
 use Rattle.callcontrol.specs.Call.{is_idle}
 use Rattle.console.specs.declared.route.Aim.{Aim}
-use Rattle.console.specs.declared.route.ConsoleAnswer.{ConsoleAnswer}
-use Rattle.console.specs.declared.route.Route.{Route}
+use Rattle.console.specs.declared.route.ConsoleRefusal.{ConsoleRefusal}
 use Rattle.console.specs.Table.{holds, lowest}
-use Rattle.console.specs.Route.{console_number, aim_of, at_named, at_lowest_idle, outgoing, incoming, at_holder, aimed, route_of}
+use Rattle.console.specs.Route.{Route, console_number, aim_of, at_named, at_lowest_idle, outgoing, incoming, at_holder, aimed, route_of}
 
 -- what a route says of itself and of the aim that it comes from
 abbrev Leads : Aim → Route → Type 0
@@ -46,11 +45,11 @@ pub to_all : (calls : List Call) (place : ℕ) (e : Event) → route_of calls pl
 unfolding route_of
 to_all calls place e h = rw h at (leads (aim_of e) calls place)
 
-pub to_none : (calls : List Call) (place : ℕ) (e : Event) {a : ConsoleAnswer} → route_of calls place e ≡ Route.Refused a → 5 ≤ console_number a
+pub to_none : (calls : List Call) (place : ℕ) (e : Event) {a : ConsoleRefusal} → route_of calls place e ≡ Route.Refused a → 5 ≤ console_number a
 unfolding route_of
 to_none calls place e h = (rw h at (leads (aim_of e) calls place)).0
 
-pub not_seven : (calls : List Call) (place : ℕ) (e : Event) {a : ConsoleAnswer} → route_of calls place e ≡ Route.Refused a → console_number a ≡ 7 → ⊥
+pub not_seven : (calls : List Call) (place : ℕ) (e : Event) {a : ConsoleRefusal} → route_of calls place e ≡ Route.Refused a → console_number a ≡ 7 → ⊥
 unfolding route_of
 not_seven calls place e h = (rw h at (leads (aim_of e) calls place)).1
 

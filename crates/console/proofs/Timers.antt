@@ -18,9 +18,8 @@ use Rattle.demands.specs.Demands.{AtMostOne}
 use Rattle.demands.proofs.Turns.{accepts}
 use Rattle.demands.proofs.Demands as step-demands
 use Rattle.console.specs.declared.route.Aim.{Aim}
-use Rattle.console.specs.declared.route.Route.{Route}
 use Rattle.console.specs.Table.{fresh_table}
-use Rattle.console.specs.Route.{aim_of, at_named, route_of}
+use Rattle.console.specs.Route.{Route, aim_of, at_named, route_of}
 use Rattle.console.specs.Console.{refuses_at, refuses}
 use Rattle.console.specs.Runs.{ConsoleTurn, console_outcome, console_run, lent_behind, went_to, went_in}
 use Rattle.console.specs.Demands as claims

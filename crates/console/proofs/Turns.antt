@@ -12,9 +12,8 @@ use Rattle.records.specs.Events.{events}
 use Rattle.callcontrol.specs.declared.call.Call.{Call}
 use Rattle.callcontrol.specs.Writing.{bytes_of}
 use Rattle.console.specs.declared.route.Aim.{Aim}
-use Rattle.console.specs.declared.route.Route.{Route}
 use Rattle.console.specs.Table.{call_at, some?, table_sound}
-use Rattle.console.specs.Route.{aim_of, route_of}
+use Rattle.console.specs.Route.{Route, aim_of, route_of}
 use Rattle.console.specs.Console as console
 use Rattle.console.specs.Console.{ConsoleOutcome, placed, takes, writes_from, next_of, all_next, everywhere, at_place, routed, console_of, refuses_at, refuses}
 use Rattle.console.specs.Runs.{ConsoleTurn, console_outcome, console_next, console_run, all_fits}

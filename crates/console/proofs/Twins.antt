@@ -13,16 +13,15 @@ use Rattle.callcontrol.specs.declared.call.Call.{Call}
 use Rattle.callcontrol.specs.Call.{fresh_call, is_idle, as_fresh, sound, ◌⇒◌}
 use Rattle.callcontrol.specs.Rows.{row_for}
 use Rattle.callcontrol.specs.Step.{decided}
-use Rattle.callcontrol.specs.declared.step.Answer.{Answer}
+use Rattle.callcontrol.specs.declared.step.Refusal.{Refusal}
 use Rattle.demands.specs.Runs.{Turn, outcome, next, run}
 use Rattle.demands.specs.Demands.{Kept}
 use Rattle.demands.proofs.Facts.{left, right, is_not}
 use Rattle.demands.proofs.Demands.{fresh_is_sound, step_keeps_sound}
 use Rattle.console.specs.declared.route.Aim.{Aim}
-use Rattle.console.specs.declared.route.ConsoleAnswer.{ConsoleAnswer}
-use Rattle.console.specs.declared.route.Route.{Route}
+use Rattle.console.specs.declared.route.ConsoleRefusal.{ConsoleRefusal}
 use Rattle.console.specs.Table.{no_call, call_at, fresh_table, holds, alike, some?, every?, apart, table_sound, lowest}
-use Rattle.console.specs.Route.{aim_of, or_else, at_lowest_idle, outgoing, incoming, at_holder, aimed, route_of}
+use Rattle.console.specs.Route.{Route, aim_of, or_else, at_lowest_idle, outgoing, incoming, at_holder, aimed, route_of}
 use Rattle.console.specs.Console.{placed, takes, next_of}
 use Rattle.console.specs.Runs.{ConsoleTurn, console_next, console_run, went_to}
 use Rattle.console.proofs.Placing.{Decides, decides}
@@ -69,15 +68,6 @@ twin c d true is s t none =
     (or_case (leb 1 c.id) (not (is_idle c) && not (is_idle d)) (right (eqb c.id d.id) _ is)
     (λ some. none (outside c (is_idle c) refl s some) (outside d (is_idle d) refl t (rw same at some)) same)
     (λ both. none (is_not (is_idle c) (left (not (is_idle c)) (not (is_idle d)) both)) (is_not (is_idle d) (right (not (is_idle c)) (not (is_idle d)) both)) same))
-
-no_twin : (c d : Call) → alike c d ≡ false → NoTwin c d
-unfolding alike
-no_twin c d unlike p q same =
-    false_true (rw (eq-eqb c.id d.id same, p, q) (or-true (leb 1 c.id))) unlike
-  where
-    or-true : (a : Bool) → (a || true) ≡ true
-    or-true true = refl
-    or-true false = refl
 
 -- ---- the pairs of a list
 
@@ -162,24 +152,24 @@ module _ (calls : List Call) (g : Good calls) (i : ℕ) (lt : i < 8) where
   free_other {n} k kl none out is =
       false_true (holds_it n (call_at calls k) out is) (below_lowest (holds n) calls k (omega arith))
 
-  refused_or : (z : Bool) (n : ℕ) (a : ConsoleAnswer) (r : Route) → ltb (lowest (holds n) calls) 8 ≡ z → cond z (Route.Refused a) r ≡ Route.To i → 8 ≤ lowest (holds n) calls
+  refused_or : (z : Bool) (n : ℕ) (a : ConsoleRefusal) (r : Route) → ltb (lowest (holds n) calls) 8 ≡ z → cond z (Route.Refused a) r ≡ Route.To i → 8 ≤ lowest (holds n) calls
   refused_or true n a r z h = absurd (let w : ◌≡◌ {A = ℕ} 0 1 = cc in omega arith)
   refused_or false n a r z h = ltb-false (lowest (holds n) calls) 8 z
 
   for_outgoing : outgoing calls ≡ Route.To i → 8 ≤ lowest (holds 0) calls
   unfolding outgoing
-  for_outgoing h = refused_or (ltb (lowest (holds 0) calls) 8) 0 ConsoleAnswer.IdAwaited (at_lowest_idle calls) refl h
+  for_outgoing h = refused_or (ltb (lowest (holds 0) calls) 8) 0 ConsoleRefusal.IdAwaited (at_lowest_idle calls) refl h
 
   for_incoming : (n : ℕ) → incoming calls n ≡ Route.To i → 8 ≤ lowest (holds n) calls
   unfolding incoming
-  for_incoming n h = refused_or (ltb (lowest (holds n) calls) 8) n ConsoleAnswer.IdHeld (at_lowest_idle calls) refl h
+  for_incoming n h = refused_or (ltb (lowest (holds n) calls) 8) n ConsoleRefusal.IdHeld (at_lowest_idle calls) refl h
 
   for_held : (n : ℕ) → at_holder calls n ≡ Route.To i → Free n
   unfolding at_holder
   for_held n h = by (ltb (lowest (holds n) calls) 8) refl h
     where
       by : (z : Bool) → ltb (lowest (holds n) calls) 8 ≡ z
-          → cond z (Route.To (lowest (holds n) calls)) (or_else (lowest (holds 0) calls) (Route.Refused (ConsoleAnswer.OfStep Answer.OtherCall))) ≡ Route.To i → Free n
+          → cond z (Route.To (lowest (holds n) calls)) (or_else (lowest (holds 0) calls) (Route.Refused (ConsoleRefusal.OfStep Refusal.OtherCall))) ≡ Route.To i → Free n
       by true z w =
           let same : lowest (holds n) calls ≡ i = cc in
           let eight = g.eight in

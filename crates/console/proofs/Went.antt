@@ -23,9 +23,8 @@ use Rattle.callcontrol.specs.Step.{Outcome, decided, step_of}
 use Rattle.callcontrol.proofs.Laying.{size-append}
 use Rattle.demands.specs.Runs.{Turn, outcome, next, run, taken_by, written_by, written_in}
 use Rattle.console.specs.declared.route.Aim.{Aim}
-use Rattle.console.specs.declared.route.Route.{Route}
 use Rattle.console.specs.Table.{no_call, call_at, some?, table_sound}
-use Rattle.console.specs.Route.{aim_of, route_of}
+use Rattle.console.specs.Route.{Route, aim_of, route_of}
 use Rattle.console.specs.Console.{ConsoleOutcome, behind, writes, placed, takes, part, writes_from, all_next, everywhere, at_place, refuses_at}
 use Rattle.console.specs.Runs.{ConsoleTurn, console_outcome, console_next, lent_behind, all_fits, goes, went_to, framed_from, framed}
 use Rattle.console.proofs.Placing.{taking, Decides, decides, row_carried, carried_whole, placed_refuses, placed_takes}

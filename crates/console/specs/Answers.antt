@@ -11,9 +11,8 @@ use Rattle.callcontrol.specs.Writing.{bytes_of}
 use Rattle.callcontrol.specs.Step.{over_transmission}
 use Rattle.demands.specs.Demands.{wrong_length, no_kind, retired_kind, bad_body, of_event, first}
 use Rattle.console.specs.declared.route.Aim.{Aim}
-use Rattle.console.specs.declared.route.Route.{Route}
 use Rattle.console.specs.Table.{call_at, holds, some?, table_sound}
-use Rattle.console.specs.Route.{aim_of, route_of}
+use Rattle.console.specs.Route.{Route, aim_of, route_of}
 use Rattle.console.specs.Console.{takes, writes, writes_from}
 use Rattle.console.specs.Runs.{ConsoleTurn, console_outcome}
 

@@ -1,5 +1,5 @@
 -- The console's step: the answers in their order, and what each gives back.
-use Rattle.std.specs.Prelude.{ℕ, suc, ◌+◌, ◌≤◌, ◌<◌, ◌≡◌, Bool, true, false, cond, not, List, [], ◌∷◌, ◌++◌, leb, ltb, eqb, length, drop, set}
+use Rattle.std.specs.Prelude.{Result, Ok, Err, ℕ, suc, ◌+◌, ◌≤◌, ◌<◌, ◌≡◌, Bool, true, false, cond, not, List, [], ◌∷◌, ◌++◌, leb, eqb, length, drop, set}
 use Rattle.std.proofs.lemmas.List.Edits.{sets}
 use Rattle.records.specs.declared.events.Event.{Event}
 use Rattle.records.specs.declared.messages.Message.{Message}
@@ -9,12 +9,12 @@ use Rattle.callcontrol.specs.declared.call.Call.{Call}
 use Rattle.callcontrol.specs.Rows.{row_for}
 use Rattle.callcontrol.specs.Writing.{messages_in, bytes_of}
 use Rattle.callcontrol.specs.Step.{Outcome, refusal, decided}
-use Rattle.console.specs.declared.route.Route.{Route}
 use Rattle.console.specs.declared.console.ConsoleStepped.{ConsoleStepped}
-use Rattle.console.specs.declared.console.SoFar.{SoFar}
 use Rattle.console.specs.declared.console.AllStepped.{AllStepped}
+use Rattle.console.specs.declared.console.SoFar.{SoFar}
+use Rattle.console.specs.declared.route.ConsoleRefusal.{ConsoleRefusal}
 use Rattle.console.specs.Table.{call_at, some?, table_sound}
-use Rattle.console.specs.Route.{console_number, route_of}
+use Rattle.console.specs.Route.{Route, console_number, console_place, route_of}
 
 -- what comes back: the answer's number, the place that 4 has with it and 0 else, the eight records, the count of bytes written, and the lent
 -- buffer then
@@ -103,8 +103,15 @@ when_read (refused n at) calls place buffer = refuses_at n at calls buffer
 unfoldable pub console_of : List Call → ℕ → List ℕ → List ℕ → ConsoleOutcome
 console_of calls place bytes buffer = cond (table_sound calls) (when_read (read events bytes) calls place buffer) (refuses 1 calls buffer)
 
-abbrev pub as_console : ConsoleStepped → List ℕ → ConsoleOutcome
-as_console r buffer = record { answer = console_number r.answer; place = r.place; calls = r.calls; count = r.count; buffer = buffer }
+-- the code's result, for the records that were handed in: a refusal counts 0 bytes and leaves those records
+abbrev pub as_console : List Call → Result ConsoleStepped ConsoleRefusal → List ℕ → ConsoleOutcome
+as_console calls (Ok r) buffer = record { answer = 0; place = 0; calls = r.calls; count = r.count; buffer = buffer }
+as_console calls (Err e) buffer = refuses_at (console_number e) (console_place e) calls buffer
+
+-- the same of an event for every place
+abbrev pub as_everywhere : List Call → Result AllStepped ConsoleRefusal → List ℕ → ConsoleOutcome
+as_everywhere calls (Ok r) buffer = record { answer = 0; place = 0; calls = r.calls; count = r.count; buffer = buffer }
+as_everywhere calls (Err e) buffer = refuses_at (console_number e) (console_place e) calls buffer
 
 -- how the code counts and lays
 
@@ -112,22 +119,22 @@ as_console r buffer = record { answer = console_number r.answer; place = r.place
 abbrev pub headed : ℕ → ℕ
 headed n = cond (eqb n 0) 0 (5 + n)
 
--- the bytes in front of the step's part of a lent buffer of some length
-abbrev pub head_room : ℕ → ℕ
-head_room n = cond (ltb n 5) n 5
-
 -- one place more: what it writes is laid behind what those in front of it write, and it is the last that takes the event, or they have that
 pub record OneMore (upto size : ℕ) (now : List ℕ) (k : ℕ) (c : Call) (e : Event) (passed : SoFar) (own : List ℕ) : Type 0 where
   pub last : upto ≡ cond (takes e c) (k + 1) passed.upto
   pub behind : size ≡ passed.size + length (bytes_of (part k c e))
   pub bytes : now ≡ sets own passed.size (bytes_of (part k c e))
 
--- what all places write is laid in the buffer from its front; `upto` ends with a place that takes the event, and behind it none does
-pub record LaidAll (r : AllStepped) (now : List ℕ) (calls : List Call) (e : Event) (buffer : List ℕ) : Type 0 where
+-- a count of places that ends with one that takes the event, where behind it none does
+pub record UpTo (upto : ℕ) (calls : List Call) (e : Event) : Type 0 where
+  pub within : upto ≤ 8
+  pub tight : (j : ℕ) → upto ≡ suc j → takes e (call_at calls j) ≡ true
+  pub behind : (j : ℕ) → upto ≤ j → j < 8 → takes e (call_at calls j) ≡ false
+
+-- what all places write is laid in the buffer from its front; `upto` ends with the last place that takes the event
+pub record LaidAll (r : SoFar) (after : List Call) (now : List ℕ) (calls : List Call) (e : Event) (buffer : List ℕ) : Type 0 where
   pub taken : not (eqb r.upto 0) ≡ some? (takes e) calls
-  pub within : r.upto ≤ 8
-  pub tight : (j : ℕ) → r.upto ≡ suc j → takes e (call_at calls j) ≡ true
-  pub behind : (j : ℕ) → r.upto ≤ j → j < 8 → takes e (call_at calls j) ≡ false
+  pub last : UpTo r.upto calls e
   pub size : r.size ≡ length (bytes_of (writes_from 0 calls e))
-  pub records : r.calls ≡ all_next calls e
+  pub records : after ≡ all_next calls e
   pub bytes : now ≡ sets buffer 0 (bytes_of (writes_from 0 calls e))

@@ -18,9 +18,8 @@ use Rattle.demands.specs.Clocks.{log_in, running_by, runs_by}
 use Rattle.demands.specs.History.{plane_by_history, id_by_history, slots_by_history, carry_none}
 use Rattle.demands.specs.Demands.{Reads, Restoration, quiet, timers_in, one_call, count, OnlyDue, AtRest, limits}
 use Rattle.console.specs.declared.route.Aim.{Aim}
-use Rattle.console.specs.declared.route.Route.{Route}
 use Rattle.console.specs.Table.{call_at, fresh_table, some?, table_sound}
-use Rattle.console.specs.Route.{aim_of, route_of}
+use Rattle.console.specs.Route.{Route, aim_of, route_of}
 use Rattle.console.specs.Console.{refuses_at, refuses, takes, writes_from, next_of}
 use Rattle.console.specs.Runs.{ConsoleTurn, console_outcome, console_next, console_run, lent_behind, went_to, went_in, framed, heard_in}
 

@@ -1,16 +1,15 @@
 -- A table by its keys: a record outside IDLE has its identifier, one in IDLE a number that no identifier is and no other place has. On sound
 -- records the keys tell where an event goes and whether two are alike, as the records do (proofs/ByKeys).
-use Rattle.std.specs.Prelude.{ℕ, suc, ◌+◌, Bool, true, false, cond, not, ◌&&◌, ◌||◌, List, [], ◌∷◌, leb, ltb, eqb}
+use Rattle.std.specs.Prelude.{Result, Ok, Err, ℕ, suc, ◌+◌, Bool, true, false, cond, not, ◌&&◌, ◌||◌, List, [], ◌∷◌, leb, ltb, eqb}
 use Rattle.records.specs.declared.events.Event.{Event}
 use Rattle.records.specs.Tables.{Read, taken, refused}
 use Rattle.callcontrol.specs.declared.call.Call.{Call}
-use Rattle.callcontrol.specs.declared.step.Answer.{Answer}
+use Rattle.callcontrol.specs.declared.step.Refusal.{Refusal}
 use Rattle.callcontrol.specs.Call.{is_idle}
-use Rattle.console.specs.declared.route.ConsoleAnswer.{ConsoleAnswer}
+use Rattle.console.specs.declared.route.ConsoleRefusal.{ConsoleRefusal}
 use Rattle.console.specs.declared.route.Aim.{Aim}
-use Rattle.console.specs.declared.route.Route.{Route}
-use Rattle.console.specs.declared.route.Led.{Led}
-use Rattle.console.specs.Route.{console_number, aim_of, or_else, at_named}
+use Rattle.console.specs.declared.route.Target.{Target}
+use Rattle.console.specs.Route.{Route, console_number, console_place, aim_of, or_else, at_named}
 
 -- identifiers are at most 16383
 abbrev pub key_of : ℕ → Call → ℕ
@@ -43,16 +42,16 @@ idle_by keys = lowest_key (leb 16384) keys
 -- each line of Route, by the keys
 
 unfoldable pub at_idle_by : List ℕ → Route
-at_idle_by keys = or_else (idle_by keys) (Route.Refused ConsoleAnswer.NoIdlePlace)
+at_idle_by keys = or_else (idle_by keys) (Route.Refused ConsoleRefusal.NoIdlePlace)
 
 unfoldable pub outgoing_by : List ℕ → Route
-outgoing_by keys = cond (ltb (held_by 0 keys) 8) (Route.Refused ConsoleAnswer.IdAwaited) (at_idle_by keys)
+outgoing_by keys = cond (ltb (held_by 0 keys) 8) (Route.Refused ConsoleRefusal.IdAwaited) (at_idle_by keys)
 
 unfoldable pub incoming_by : List ℕ → ℕ → Route
-incoming_by keys i = cond (ltb (held_by i keys) 8) (Route.Refused ConsoleAnswer.IdHeld) (at_idle_by keys)
+incoming_by keys i = cond (ltb (held_by i keys) 8) (Route.Refused ConsoleRefusal.IdHeld) (at_idle_by keys)
 
 unfoldable pub at_holder_by : List ℕ → ℕ → Route
-at_holder_by keys i = or_else (held_by i keys) (or_else (held_by 0 keys) (Route.Refused (ConsoleAnswer.OfStep Answer.OtherCall)))
+at_holder_by keys i = or_else (held_by i keys) (or_else (held_by 0 keys) (Route.Refused (ConsoleRefusal.OfStep Refusal.OtherCall)))
 
 abbrev pub aimed_by : Aim → List ℕ → ℕ → Route
 aimed_by Aim.Place keys place = at_named place
@@ -70,10 +69,10 @@ pub data Lead : Type 0 where
   goes_everywhere : Event → Lead
   goes_nowhere : ℕ → ℕ → Lead
 
-abbrev pub as_lead : Led → Lead
-as_lead (Led.To k e) = goes_to k e
-as_lead (Led.Everywhere e) = goes_everywhere e
-as_lead (Led.Refused a p) = goes_nowhere (console_number a) p
+abbrev pub as_lead : Result (Target × Event) ConsoleRefusal → Lead
+as_lead (Ok (Target.Place k, e)) = goes_to k e
+as_lead (Ok (Target.Everywhere, e)) = goes_everywhere e
+as_lead (Err a) = goes_nowhere (console_number a) (console_place a)
 
 abbrev pub along : Event → Route → Lead
 along e (Route.To k) = goes_to k e

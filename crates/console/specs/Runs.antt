@@ -9,9 +9,8 @@ use Rattle.records.specs.Events.{events}
 use Rattle.callcontrol.specs.declared.call.Call.{Call}
 use Rattle.callcontrol.specs.Writing.{bytes_of}
 use Rattle.demands.specs.Runs.{Turn, written_in}
-use Rattle.console.specs.declared.route.Route.{Route}
 use Rattle.console.specs.Table.{call_at, table_sound}
-use Rattle.console.specs.Route.{route_of}
+use Rattle.console.specs.Route.{Route, route_of}
 use Rattle.console.specs.Console.{ConsoleOutcome, console_of, behind, takes, writes_from}
 
 -- any place named, any bytes handed in, any buffer lent

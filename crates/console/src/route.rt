@@ -2,17 +2,21 @@
 ghost use Rattle.std.specs.Prelude.{◌≡◌, ◌<◌};
 ghost use Rattle.records.specs.Tables.{read};
 ghost use Rattle.records.specs.Events.{events};
-ghost use Rattle.console.specs.Route.{console_number, aim_of, at_named};
+ghost use Rattle.callcontrol.specs.declared.step.Refusal.{Refusal};
+ghost use Rattle.console.specs.declared.route.ConsoleRefusal.{ConsoleRefusal};
+ghost use Rattle.console.specs.Route.{console_number, console_place, aim_of, at_named, as_route};
 ghost use Rattle.console.specs.Keys.{at_idle_by, outgoing_by, incoming_by, at_holder_by, route_by, as_lead, lead_by};
 
-use crate::keys::{held_by, idle_by};
-use callcontrol::step::{Answer, answer_number, place_in, unread};
-use records::events::{Event, EventRead, read_event};
+use crate::keys::Keys;
+use callcontrol::step::Refusal;
+use records::bodies::Unreadable;
+use records::events::Event;
+use records::record::read;
 
-// What comes back: the step's own answers, and those that only a console gives.
-#[derive(Clone, Copy)]
-pub enum ConsoleAnswer {
-    OfStep(Answer),
+// Why the console refuses an event: the step's own refusals, and those that only a console gives.
+#[derive(Clone, Copy, Debug, PartialEq, Eq)]
+pub enum ConsoleRefusal {
+    OfStep(Refusal),
     // 40: the place that is named is over 7.
     PlaceOver,
     // 41: D-SETUP with an identifier that a place holds already.
@@ -23,22 +27,50 @@ pub enum ConsoleAnswer {
     NoIdlePlace,
 }
 
-// The answer as the paper's number.
-pub fn console_number(answer: ConsoleAnswer) -> u8
-    ensures value { result ≡ console_number answer }
-    ensures upper_bound { result < 44 }
-{
-    match answer {
-        ConsoleAnswer::OfStep(own) => answer_number(own),
-        ConsoleAnswer::PlaceOver => 40,
-        ConsoleAnswer::IdHeld => 41,
-        ConsoleAnswer::IdAwaited => 42,
-        ConsoleAnswer::NoIdlePlace => 43,
+impl ConsoleRefusal {
+    // The paper's number.
+    pub fn number(self) -> u8
+        ensures value { result ≡ console_number self }
+        ensures upper_bound { result < 44 }
+    {
+        match self {
+            ConsoleRefusal::OfStep(own) => own.number(),
+            ConsoleRefusal::PlaceOver => 40,
+            ConsoleRefusal::IdHeld => 41,
+            ConsoleRefusal::IdAwaited => 42,
+            ConsoleRefusal::NoIdlePlace => 43,
+        }
+    }
+
+    // The place that comes with 4, an offset in the record and never one of the eight; 0 with every other.
+    pub fn place(self) -> u8
+        ensures { result ≡ console_place self }
+    {
+        match self {
+            ConsoleRefusal::OfStep(own) => own.place(),
+            _ => 0,
+        }
+    }
+}
+
+impl From<Refusal> for ConsoleRefusal {
+    ghost from_gives = { λ own refusal. refusal ≡ ConsoleRefusal.OfStep own };
+
+    fn from(own: Refusal) -> ConsoleRefusal {
+        ConsoleRefusal::OfStep(own)
+    }
+}
+
+impl From<Unreadable> for ConsoleRefusal {
+    ghost from_gives = { λ unreadable refusal. refusal ≡ ConsoleRefusal.OfStep (Refusal.Unreadable unreadable) };
+
+    fn from(unreadable: Unreadable) -> ConsoleRefusal {
+        ConsoleRefusal::OfStep(Refusal::Unreadable(unreadable))
     }
 }
 
 // By what an event finds its place.
-#[derive(Clone, Copy)]
+#[derive(Clone, Copy, Debug, PartialEq, Eq)]
 pub enum Aim {
     // By the number handed in beside the record.
     Place,
@@ -52,158 +84,109 @@ pub enum Aim {
     Every,
 }
 
-#[derive(Clone, Copy)]
-pub enum Route {
-    To(usize),
+// Where an event goes that is not refused.
+#[derive(Clone, Copy, Debug, PartialEq, Eq)]
+pub enum Target {
+    // To the place with this number.
+    Place(usize),
+    // To every place that would take it.
     Everywhere,
-    Refused(ConsoleAnswer),
-}
-
-// Where the bytes of an event lead; a refusal has the offset that comes with 4.
-#[derive(Clone, Copy)]
-pub enum Led {
-    To { k: usize, event: Event },
-    Everywhere { event: Event },
-    Refused { answer: ConsoleAnswer, at: u8 },
 }
 
 pub fn aim_of(event: Event) -> Aim
     ensures { result ≡ aim_of event }
 {
     match event {
-        Event::SetupRequest {
-            address: _,
-            mode: _,
-            ask: _,
-            slots: _,
-        } => Aim::Outgoing,
-        Event::SetupResponse => Aim::Place,
-        Event::ReleaseRequest => Aim::Place,
-        Event::TxRequest { go: _ } => Aim::Place,
-        Event::DCallProceeding { id } => Aim::Held(id),
-        Event::DAlert { id } => Aim::Held(id),
-        Event::DConnect {
-            id,
-            grant: _,
-            mode: _,
-            code: _,
-            slots: _,
-        } => Aim::Held(id),
-        Event::DConnectAcknowledge {
-            id,
-            grant: _,
-            code: _,
-        } => Aim::Held(id),
-        Event::DSetup {
-            id,
-            address: _,
-            mode: _,
-        } => Aim::Incoming(id),
-        Event::DInfo {
-            id,
-            reset: _,
-            code: _,
-            mode: _,
-            slots: _,
-        } => Aim::Held(id),
-        Event::DTxGranted { id, grant: _ } => Aim::Held(id),
-        Event::DTxCeased { id } => Aim::Held(id),
-        Event::DTxInterrupt { id, grant: _ } => Aim::Held(id),
-        Event::DTxWait { id } => Aim::Held(id),
-        Event::DTxContinue { id, go: _ } => Aim::Held(id),
-        Event::DCallRestore {
-            id,
-            grant: _,
-            reset: _,
-            code: _,
-        } => Aim::Held(id),
-        Event::DDisconnect { id } => Aim::Held(id),
-        Event::DRelease { id } => Aim::Held(id),
-        Event::ReportSent => Aim::Place,
-        Event::ReportFailed => Aim::Place,
-        Event::Break => Aim::Every,
-        Event::Resume => Aim::Every,
-        Event::Expiry { timer: _ } => Aim::Place,
+        Event::SetupRequest { .. } => Aim::Outgoing,
+        Event::DSetup { id, .. } => Aim::Incoming(id),
+        Event::DCallProceeding { id }
+        | Event::DAlert { id }
+        | Event::DConnect { id, .. }
+        | Event::DConnectAcknowledge { id, .. }
+        | Event::DInfo { id, .. }
+        | Event::DTxGranted { id, .. }
+        | Event::DTxCeased { id }
+        | Event::DTxInterrupt { id, .. }
+        | Event::DTxWait { id }
+        | Event::DTxContinue { id, .. }
+        | Event::DCallRestore { id, .. }
+        | Event::DDisconnect { id }
+        | Event::DRelease { id } => Aim::Held(id),
+        Event::SetupResponse
+        | Event::ReleaseRequest
+        | Event::TxRequest { .. }
+        | Event::ReportSent
+        | Event::ReportFailed
+        | Event::Expiry { .. } => Aim::Place,
+        Event::Break | Event::Resume => Aim::Every,
     }
 }
 
-fn at_named(place: u8) -> Route
-    ensures { result ≡ at_named place }
+#[tactic(auto, unfolding(crate::specs::Route::at_named))]
+fn at_named(place: u8) -> Result<Target, ConsoleRefusal>
+    ensures { as_route result ≡ at_named place }
 {
     if place < 8 {
-        return Route::To(place as usize);
+        return Ok(Target::Place(place as usize));
     }
-    Route::Refused(ConsoleAnswer::PlaceOver)
+    Err(ConsoleRefusal::PlaceOver)
 }
 
-fn at_lowest_idle(keys: [u16; 8]) -> Route
-    ensures { result ≡ at_idle_by keys }
+fn at_lowest_idle(keys: Keys) -> Result<Target, ConsoleRefusal>
+    ensures { as_route result ≡ at_idle_by keys.each }
 {
-    let k = idle_by(keys);
-    if k < 8 {
-        return Route::To(k);
+    match keys.lowest_idle() {
+        Some(k) => Ok(Target::Place(k)),
+        None => Err(ConsoleRefusal::NoIdlePlace),
     }
-    Route::Refused(ConsoleAnswer::NoIdlePlace)
 }
 
-fn outgoing(keys: [u16; 8]) -> Route
-    ensures { result ≡ outgoing_by keys }
+fn outgoing(keys: Keys) -> Result<Target, ConsoleRefusal>
+    ensures { as_route result ≡ outgoing_by keys.each }
 {
-    if held_by(keys, 0) < 8 {
-        return Route::Refused(ConsoleAnswer::IdAwaited);
+    if keys.held_by(0).is_some() {
+        return Err(ConsoleRefusal::IdAwaited);
     }
     at_lowest_idle(keys)
 }
 
-fn incoming(keys: [u16; 8], id: u16) -> Route
-    ensures { result ≡ incoming_by keys id }
+fn incoming(keys: Keys, id: u16) -> Result<Target, ConsoleRefusal>
+    ensures { as_route result ≡ incoming_by keys.each id }
 {
-    if held_by(keys, id) < 8 {
-        return Route::Refused(ConsoleAnswer::IdHeld);
+    if keys.held_by(id).is_some() {
+        return Err(ConsoleRefusal::IdHeld);
     }
     at_lowest_idle(keys)
 }
 
 // The place with the identifier, else the one without any.
-fn at_holder(keys: [u16; 8], id: u16) -> Route
-    ensures { result ≡ at_holder_by keys id }
+fn at_holder(keys: Keys, id: u16) -> Result<Target, ConsoleRefusal>
+    ensures { as_route result ≡ at_holder_by keys.each id }
 {
-    let k = held_by(keys, id);
-    if k < 8 {
-        return Route::To(k);
+    match keys.held_by(id).or_else(|| keys.held_by(0)) {
+        Some(k) => Ok(Target::Place(k)),
+        None => Err(ConsoleRefusal::OfStep(Refusal::OtherCall)),
     }
-    let k = held_by(keys, 0);
-    if k < 8 {
-        return Route::To(k);
-    }
-    Route::Refused(ConsoleAnswer::OfStep(Answer::OtherCall))
 }
 
-pub fn route_of(keys: [u16; 8], place: u8, event: Event) -> Route
-    ensures { result ≡ route_by keys place event }
+#[tactic(auto, unfolding(crate::specs::Keys::route_by))]
+pub fn route_of(keys: Keys, place: u8, event: Event) -> Result<Target, ConsoleRefusal>
+    ensures { as_route result ≡ route_by keys.each place event }
 {
     match aim_of(event) {
         Aim::Place => at_named(place),
         Aim::Outgoing => outgoing(keys),
         Aim::Incoming(id) => incoming(keys, id),
         Aim::Held(id) => at_holder(keys, id),
-        Aim::Every => Route::Everywhere,
+        Aim::Every => Ok(Target::Everywhere),
     }
 }
 
-pub fn lead(keys: [u16; 8], place: u8, event: &[u8]) -> Led
-    ensures { as_lead result ≡ lead_by keys place (read events event.now) }
+// Where the bytes of an event lead, and the event. A call of its own: in the caller what follows would be written out for each case of the reader.
+#[inline(never)]
+pub fn lead(keys: Keys, place: u8, event: &[u8]) -> Result<(Target, Event), ConsoleRefusal>
+    ensures { as_lead result ≡ lead_by keys.each place (read events event.now) }
 {
-    let read = read_event(event);
-    let EventRead::Is(e) = read else {
-        return Led::Refused {
-            answer: ConsoleAnswer::OfStep(unread(read)),
-            at: place_in(read),
-        };
-    };
-    match route_of(keys, place, e) {
-        Route::To(k) => Led::To { k, event: e },
-        Route::Everywhere => Led::Everywhere { event: e },
-        Route::Refused(answer) => Led::Refused { answer, at: 0 },
-    }
+    let event = read(event)?;
+    Ok((route_of(keys, place, event)?, event))
 }

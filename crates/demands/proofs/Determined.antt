@@ -3,14 +3,13 @@
 use Prim.Native.Nat.{ℕ}
 use mathlib.Core.Path.{◌≡◌, sym, ◌∙◌, ap}
 use mathlib.Core.List.{List}
-use Rattle.records.specs.declared.bodies.Written.{Written}
+use Rattle.std.specs.Prelude.{Result}
+use Rattle.records.specs.declared.bodies.Unwritable.{Unwritable}
 use Rattle.records.proofs.Determined as records
 use Rattle.callcontrol.proofs.Determined as callcontrol
-use Rattle.records.proofs.events.read_event.Reads as read-event-promise
-use Rattle.records.proofs.messages.read_message.Reads as read-message-promise
-use Rattle.records.proofs.events.write_event.Reads as write-event-promise
-use Rattle.records.proofs.messages.write_message.Reads as write-message-promise
-use Rattle.records.proofs.messages.lay_message.Reads as lay-message-promise
+use Rattle.records.proofs.record.read.Reads as read-promise
+use Rattle.records.proofs.record.write.Reads as write-promise
+use Rattle.records.proofs.messages.MessageRecord.lay.Reads as lay-message-promise
 use Rattle.records.proofs.messages.message_size.Reads as message-size-promise
 use Rattle.records.proofs.bodies.kind_in.Reads as kind-in-promise
 use Rattle.records.proofs.letters.byte_fits.Reads as byte-fits-promise
@@ -19,17 +18,15 @@ use Rattle.records.proofs.letters.word_fits.Reads as word-fits-promise
 use Rattle.records.proofs.letters.long_fits.Reads as long-fits-promise
 use Rattle.callcontrol.proofs.step.step.Reads as step-promise
 use Rattle.callcontrol.proofs.step.decide.Reads as decide-promise
-use Rattle.callcontrol.proofs.step.refuse.Reads as refuse-promise
-use Rattle.callcontrol.proofs.step.unread.Reads as unread-promise
-use Rattle.callcontrol.proofs.step.place_in.Reads as place-in-promise
-use Rattle.callcontrol.proofs.step.answer_number.Reads as answer-number-promise
+use Rattle.callcontrol.proofs.step.RefusalFromUnreadable.from.Reads as unread-promise
+use Rattle.callcontrol.proofs.step.Refusal.place.Reads as place-in-promise
+use Rattle.callcontrol.proofs.step.Refusal.number.Reads as answer-number-promise
 use Rattle.callcontrol.proofs.call.Call.fresh.Reads as fresh-promise
 use Rattle.callcontrol.proofs.call.Call.sound.Reads as sound-promise
 use Rattle.callcontrol.proofs.call.Call.is_idle.Reads as is-idle-promise
 use Rattle.callcontrol.proofs.call.Call.transmits.Reads as transmits-promise
-use Rattle.callcontrol.proofs.call.state_number.Reads as state-number-promise
-use Rattle.callcontrol.proofs.call.path_number.Reads as path-number-promise
-use Rattle.callcontrol.proofs.row.Row.none.Reads as row-none-promise
+use Rattle.callcontrol.proofs.call.U8FromState.from.Reads as state-number-promise
+use Rattle.callcontrol.proofs.call.U8FromPath.from.Reads as path-number-promise
 use Rattle.callcontrol.proofs.rows.plane_granted.Reads as plane-granted-promise
 use Rattle.callcontrol.proofs.rows.plane_or_off.Reads as plane-or-off-promise
 use Rattle.callcontrol.proofs.rows.asked_after.Reads as asked-after-promise
@@ -42,20 +39,14 @@ use Rattle.callcontrol.proofs.settle.next_by.Reads as next-by-promise
 
 -- ---- records
 
-both : {w₁ w₂ : Written × List ℕ} → w₁ ≡ w₂ → (w₁.0 ≡ w₂.0) × (w₁.1 ≡ w₂.1)
-both e = (ap (λ (w : Written × List ℕ). w.0) e, ap (λ (w : Written × List ℕ). w.1) e)
+both : {w₁ w₂ : Result ℕ Unwritable × List ℕ} → w₁ ≡ w₂ → (w₁.0 ≡ w₂.0) × (w₁.1 ≡ w₂.1)
+both e = (ap (λ (w : Result ℕ Unwritable × List ℕ). w.0) e, ap (λ (w : Result ℕ Unwritable × List ℕ). w.1) e)
 
-pub read_event : (κs : _) (a : _) (r₁ r₂ : _) (e₁ e₂ : _) → read-event-promise.Learnt κs a r₁ e₁ → read-event-promise.Learnt κs a r₂ e₂ → r₁ ≡ r₂
-read_event κs a r₁ r₂ e₁ e₂ p q = records.read_event _ r₁ r₂ p q
+pub read_lem : (t g₁ g₂ g₃ g₄ g₅ g₆ : _) (κs : _) (a : _) (r₁ r₂ : _) (e₁ e₂ : _) → read-promise.Learnt t g₁ g₂ g₃ g₄ g₅ g₆ κs a r₁ e₁ → read-promise.Learnt t g₁ g₂ g₃ g₄ g₅ g₆ κs a r₂ e₂ → r₁ ≡ r₂
+read_lem t g₁ g₂ g₃ g₄ g₅ g₆ κs a r₁ r₂ e₁ e₂ p q = records.read_lem _ r₁ r₂ p q
 
-pub read_message : (κs : _) (a : _) (r₁ r₂ : _) (e₁ e₂ : _) → read-message-promise.Learnt κs a r₁ e₁ → read-message-promise.Learnt κs a r₂ e₂ → r₁ ≡ r₂
-read_message κs a r₁ r₂ e₁ e₂ p q = records.read_message _ r₁ r₂ p q
-
-pub write_event : (κs : _) (a : _) (r₁ r₂ : _) (e₁ e₂ : _) → write-event-promise.Learnt κs a r₁ e₁ → write-event-promise.Learnt κs a r₂ e₂ → (r₁ ≡ r₂) × (e₁.1.0.now ≡ e₂.1.0.now)
-write_event κs a r₁ r₂ e₁ e₂ p q = both (records.write_event a.0 a.1.0.now (r₁, e₁.1.0.now) (r₂, e₂.1.0.now) p q)
-
-pub write_message : (κs : _) (a : _) (r₁ r₂ : _) (e₁ e₂ : _) → write-message-promise.Learnt κs a r₁ e₁ → write-message-promise.Learnt κs a r₂ e₂ → (r₁ ≡ r₂) × (e₁.1.0.now ≡ e₂.1.0.now)
-write_message κs a r₁ r₂ e₁ e₂ p q = both (records.write_message a.0 a.1.0.now (r₁, e₁.1.0.now) (r₂, e₂.1.0.now) p q)
+pub write_lem : (t g₁ g₂ g₃ g₄ g₅ g₆ : _) (κs : _) (a : _) (r₁ r₂ : _) (e₁ e₂ : _) → write-promise.Learnt t g₁ g₂ g₃ g₄ g₅ g₆ κs a r₁ e₁ → write-promise.Learnt t g₁ g₂ g₃ g₄ g₅ g₆ κs a r₂ e₂ → (r₁ ≡ r₂) × (e₁.1.0.now ≡ e₂.1.0.now)
+write_lem t g₁ g₂ g₃ g₄ g₅ g₆ κs a r₁ r₂ e₁ e₂ p q = both (records.write_lem _ (r₁, e₁.1.0.now) (r₂, e₂.1.0.now) p q)
 
 pub lay_message : (κs : _) (a : _) (r₁ r₂ : _) (e₁ e₂ : _) → lay-message-promise.Learnt κs a r₁ e₁ → lay-message-promise.Learnt κs a r₂ e₂ → ◌≡◌ {A = ℕ × List ℕ} (r₁, e₁.1.0.now) (r₂, e₂.1.0.now)
 lay_message κs a r₁ r₂ e₁ e₂ p q = p ∙ sym q
@@ -81,13 +72,10 @@ long_fits κs a r₁ r₂ e₁ e₂ p q = p ∙ sym q
 -- ---- callcontrol
 
 pub step : (κs : _) (a : _) (r₁ r₂ : _) (e₁ e₂ : _) → step-promise.Learnt κs a r₁ e₁ → step-promise.Learnt κs a r₂ e₂ → (r₁ ≡ r₂) × (e₁.1.1.0.now ≡ e₂.1.1.0.now)
-step κs a r₁ r₂ e₁ e₂ p q = callcontrol.step _ r₁ r₂ _ _ p q
+step κs a r₁ r₂ e₁ e₂ p q = callcontrol.step _ _ r₁ r₂ _ _ p q
 
 pub decide : (κs : _) (a : _) (r₁ r₂ : _) (e₁ e₂ : _) → decide-promise.Learnt κs a r₁ e₁ → decide-promise.Learnt κs a r₂ e₂ → (r₁ ≡ r₂) × (e₁.1.1.0.now ≡ e₂.1.1.0.now)
-decide κs a r₁ r₂ e₁ e₂ p q = callcontrol.step _ r₁ r₂ _ _ p q
-
-pub refuse : (κs : _) (a : _) (r₁ r₂ : _) (e₁ e₂ : _) → refuse-promise.Learnt κs a r₁ e₁ → refuse-promise.Learnt κs a r₂ e₂ → r₁ ≡ r₂
-refuse κs a r₁ r₂ e₁ e₂ p q = p ∙ sym q
+decide κs a r₁ r₂ e₁ e₂ p q = callcontrol.step _ _ r₁ r₂ _ _ p q
 
 pub unread : (κs : _) (a : _) (r₁ r₂ : _) (e₁ e₂ : _) → unread-promise.Learnt κs a r₁ e₁ → unread-promise.Learnt κs a r₂ e₂ → r₁ ≡ r₂
 unread κs a r₁ r₂ e₁ e₂ p q = p ∙ sym q
@@ -117,9 +105,6 @@ pub transmits : (κs : _) (a : _) (r₁ r₂ : _) (e₁ e₂ : _) → transmits-
 transmits κs a r₁ r₂ e₁ e₂ p q = p ∙ sym q
 
 -- ---- callcontrol, for an engine of another shape
-
-pub row_none : (κs : _) (a : _) (r₁ r₂ : _) (e₁ e₂ : _) → row-none-promise.Learnt κs a r₁ e₁ → row-none-promise.Learnt κs a r₂ e₂ → r₁ ≡ r₂
-row_none κs a r₁ r₂ e₁ e₂ p q = p ∙ sym q
 
 pub plane_granted : (κs : _) (a : _) (r₁ r₂ : _) (e₁ e₂ : _) → plane-granted-promise.Learnt κs a r₁ e₁ → plane-granted-promise.Learnt κs a r₂ e₂ → r₁ ≡ r₂
 plane_granted κs a r₁ r₂ e₁ e₂ p q = p.0 ∙ sym q.0

@@ -6,7 +6,7 @@ use mathlib.Core.Bool.{Bool, true, false, cond, not}
 use mathlib.Core.List.{List, [], ◌∷◌, ◌++◌}
 use mathlib.Core.Option.{some}
 use native.Mathlib.Omega.{arith}
-use borrow.Author.Tests.{ltb-true, ltb-false}
+use borrow.Author.Tests.{not-true, ltb-true, ltb-false}
 use lib.Dec.{ltb, eqb}
 use lib.ListN.{length}
 use Rattle.records.specs.Bodies.{flat_size}
@@ -27,7 +27,7 @@ use Rattle.direct.specs.Runs.{Turn, next, run, taken_by, written_by, written_in,
 use Rattle.direct.specs.Demands.{Kept, one_call, AtMostLimit, FromIdle, quiet, requested, OnlyInCalls, QuietUntilAsked, BegunInIdle, NoMoreThanAsked, expected, Waits, wait, turns_left, BackToIdle, AtMostTwice, AsOftenAsLimit}
 use Rattle.direct.proofs.Situations.{sound_in_lem, row_reporting, row_waiting}
 use Rattle.direct.proofs.Turns.{apart, Turned, passed, took, turned, accepts, taking, Which, asks, awaits, gives_up_lem, connects, rejects, disconnects, retries, exhausts, row_of}
-use Rattle.direct.proofs.Kept.{is_not, Limits, limits, fresh_kept, reached, turn_keeps, check_limits, idle_fresh, idle_is, check_is, request_limits}
+use Rattle.direct.proofs.Kept.{Limits, limits, fresh_kept, reached, turn_keeps, check_limits, idle_fresh, idle_is, check_is, request_limits}
 use Rattle.direct.proofs.Timers.{due_303}
 
 -- ---- how many
@@ -93,7 +93,7 @@ in_call c [] k busy one = omega (arith, used_limit c k busy)
 in_call c (t ∷ []) k busy one = with_rest c t [] k busy (λ i. refl) (λ i. omega (arith, used_limit (next c t) (turn_keeps c t k) i))
 in_call c (t ∷ v ∷ ts) k busy one =
     let later : (not (is_idle (next c t)) ≡ true) × (one_call (next c t) (v ∷ ts) ≡ true) = both _ _ one in
-    with_rest c t (written_in (next c t) (v ∷ ts)) k busy (λ i. apart i (is_not _ later.0)) (λ i. in_call (next c t) (v ∷ ts) (turn_keeps c t k) i later.1)
+    with_rest c t (written_in (next c t) (v ∷ ts)) k busy (λ i. apart i (not-true _ later.0)) (λ i. in_call (next c t) (v ∷ ts) (turn_keeps c t k) i later.1)
 
 -- the turn that begins a call
 pub record Begun (c : Call) (t : Turn) (attempts : ℕ) : Type 0 where

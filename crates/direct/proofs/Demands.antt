@@ -3,8 +3,6 @@ use Prim.Native.Nat.{ℕ, ◌%◌, ◌<◌}
 use mathlib.Core.Path.{◌≡◌}
 use mathlib.Core.Bool.{true}
 use native.Mathlib.Omega.{arith}
-use borrow.Author.Tests.{le-leb}
-use Rattle.records.specs.Letters.{within}
 use Rattle.records.specs.Bytes.{bytes}
 use Rattle.records.specs.Bodies.{all_fit, flat_fits, body_bytes, flat_size, flat_bytes}
 use Rattle.records.specs.Tables.{Table, fine}
@@ -39,13 +37,9 @@ placed = Answers.placed
 pub place_only_with_four : claims.PlaceOnlyWithFour
 place_only_with_four = Answers.placeless
 
-byte_within : (v : ℕ) → v < 256 → within 0 255 v ≡ true
-unfolding within
-byte_within v h = rw (le-leb 0 v (omega arith), le-leb v 255 (omega arith))
-
 request_fine : (t l m : ℕ) → t < 256 → l < 256 → m < 256 → fine events (SetupRequest t l m) ≡ true
 unfolding fine flat_fits all_fit
-request_fine t l m h k j = rw (byte_within t h, byte_within l k, byte_within m j)
+request_fine t l m h k j = rw (ReadsBack.byte_within t h, ReadsBack.byte_within l k, ReadsBack.byte_within m j)
 
 pub any_byte_reads : claims.AnyByteReads
 unfolding bytes body_bytes flat_size flat_bytes

@@ -4,7 +4,7 @@ use mathlib.Core.Path.{◌≡◌, refl, sym, ◌∙◌, ap}
 use mathlib.Core.Bool.{Bool, true, false, not, ◌&&◌, ◌||◌}
 use mathlib.Core.List.{List, [], ◌∷◌}
 use native.Mathlib.Omega.{arith}
-use borrow.Author.Tests.{leb-true, ltb-true, le-leb, eqb-true}
+use borrow.Author.Tests.{not-true, not-false, leb-true, ltb-true, le-leb, eqb-true}
 use lib.Dec.{leb, eqb}
 use Rattle.records.specs.Letters.{within}
 use Rattle.records.specs.Bodies.{all_fit, flat_fits}
@@ -23,10 +23,6 @@ use Rattle.direct.specs.Runs.{Turn, next, run, is_idle, is_check}
 use Rattle.direct.specs.Demands.{Kept, FreshIsSound, StepKeepsSound, Sound, IdleIsFresh}
 use Rattle.direct.proofs.Situations.{sound_in_lem}
 use Rattle.direct.proofs.Turns.{apart, event_fine, Turned, passed, took, turned, Which, asks, awaits, gives_up_lem, connects, rejects, disconnects, retries, exhausts, row_of}
-
-pub is_not : (b : Bool) → not b ≡ true → b ≡ false
-is_not true h = apart h refl
-is_not false h = refl
 
 -- ---- the numbers of a call, as facts
 
@@ -60,7 +56,7 @@ module _ (c : Call) (holds : sound c ≡ true) where
   check_limits s = limits c (both _ _ (in_check s)).0
 
   pub check_311 : c.state ≡ State.PresenceCheck → c.dt311 ≡ false
-  check_311 s = is_not _ (both (in_limits c) _ (in_check s)).1
+  check_311 s = not-true _ (both (in_limits c) _ (in_check s)).1
 
   in_idle : c.state ≡ State.Idle → as_fresh c ≡ true
   in_idle s = sym (sound_in_lem c State.Idle s) ∙ holds
@@ -77,8 +73,8 @@ module _ (c : Call) (holds : sound c ≡ true) where
       let l : c.lowest ≡ 0 = eqb-true _ _ p₅.1 in
       let m : c.limit ≡ 0 = eqb-true _ _ p₄.1 in
       let u : c.used ≡ 0 = eqb-true _ _ p₃.1 in
-      let a : c.dt303 ≡ false = is_not _ p₂.1 in
-      let b : c.dt311 ≡ false = is_not _ p₁.1 in
+      let a : c.dt303 ≡ false = not-true _ p₂.1 in
+      let b : c.dt311 ≡ false = not-true _ p₁.1 in
       (λ i. record { state = s i; target = t i; lowest = l i; limit = m i; used = u i; dt303 = a i; dt311 = b i })
 
 -- a state that has IDLE's number is IDLE
@@ -113,15 +109,11 @@ or-false : (a b : Bool) → (a || b) ≡ false → (a ≡ false) × (b ≡ false
 or-false true b h = apart refl h
 or-false false b h = (refl, h)
 
-not_not : (b : Bool) → not b ≡ false → b ≡ true
-not_not true h = refl
-not_not false h = apart refl h
-
 pub request_limits : (t l m : ℕ) → beyond (SetupRequest t l m) ≡ false → (1 ≤ m) × ((m ≤ 15) × (l ≤ t))
 request_limits t l m h =
     let p : ((not (leb 1 m) || not (leb m 15)) ≡ false) × (not (leb l t) ≡ false) = or-false _ _ h in
     let q : (not (leb 1 m) ≡ false) × (not (leb m 15) ≡ false) = or-false _ _ p.0 in
-    (leb-true _ _ (not_not _ q.0), (leb-true _ _ (not_not _ q.1), leb-true _ _ (not_not _ p.1)))
+    (leb-true _ _ (not-false _ q.0), (leb-true _ _ (not-false _ q.1), leb-true _ _ (not-false _ p.1)))
 
 pub fresh_kept : FreshIsSound
 unfolding sound as_fresh

@@ -10,6 +10,7 @@ pub mod Reading
 pub mod ReadsBack
 pub mod Sent
 pub mod Situations
+pub mod Stores
 pub mod Tables
 pub mod Timers
 pub mod Told

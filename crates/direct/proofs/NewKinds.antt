@@ -4,7 +4,7 @@ use Prim.Native.Nat.{ℕ}
 use mathlib.Core.Path.{◌≡◌, refl}
 use mathlib.Core.Bool.{Bool, true, false, not}
 use native.Mathlib.Omega.{arith}
-use borrow.Author.Tests.{eq-eqb}
+use borrow.Author.Tests.{not-true, eq-eqb}
 use lib.Dec.{eqb}
 use Rattle.records.specs.Tables.{Table, listed}
 use Rattle.records.specs.Laws.{Lawful, every, NoneShared}
@@ -23,13 +23,9 @@ none_shared t u lt lu all j k e =
     let z : ◌≡◌ {A = Bool} false true = rw (eq-eqb (t.row_of j).number (u.row_of k).number e) at other in
     let y : ◌≡◌ {A = ℕ} 0 1 = cc in omega arith
 
-denied : (b : Bool) → not b ≡ true → b ≡ false
-denied true e = let z : ◌≡◌ {A = ℕ} 0 1 = cc in absurd (omega arith)
-denied false e = refl
-
 none_retired : (t u : Table) → Lawful t → every (λ k. not (listed (t.row_of k).number u.retired)) t.kinds ≡ true → NoneRetired t u
 none_retired t u lawful all k =
-    denied (listed (t.row_of k).number u.retired) (of_each t lawful (λ l. not (listed (t.row_of l).number u.retired)) all k)
+    not-true (listed (t.row_of k).number u.retired) (of_each t lawful (λ l. not (listed (t.row_of l).number u.retired)) all k)
 
 pub new_kinds : NewKinds
 new_kinds = (

@@ -33,7 +33,7 @@ use Rattle.direct.proofs.Kept.{fresh_kept, reached, turn_keeps, request_bytes, w
 
 -- ---- every field in its range
 
-byte_within : (v : ℕ) → v < 256 → within 0 255 v ≡ true
+pub byte_within : (v : ℕ) → v < 256 → within 0 255 v ≡ true
 unfolding within
 byte_within v h = rw (le-leb 0 v (omega arith), le-leb v 255 (omega arith))
 

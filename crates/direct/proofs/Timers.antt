@@ -6,7 +6,7 @@ use mathlib.Core.Bool.{Bool, true, false, cond, not}
 use mathlib.Core.List.{List, [], ◌∷◌}
 use mathlib.Core.Option.{some}
 use native.Mathlib.Omega.{arith}
-use borrow.Author.Tests.{eqb-true}
+use borrow.Author.Tests.{not-true, eqb-true}
 use lib.Dec.{ltb, eqb}
 use lib.ListN.{length}
 use Rattle.records.proofs.Laws.{both}
@@ -26,7 +26,7 @@ use Rattle.direct.specs.Runs.{Turn, outcome, next, run, taken_by, written_by, is
 use Rattle.direct.specs.Demands.{Kept, TimersByMessages, NoneInIdle, StopsRunning, is_late, Late, DueExpiry, DueAnswer, DueReport, ReportElsewhere}
 use Rattle.direct.proofs.Situations.{sound_in_lem, row_in, row_waiting, row_reporting}
 use Rattle.direct.proofs.Turns.{apart, Turned, passed, took, turned, no_row_lem, taking, Which, asks, awaits, gives_up_lem, connects, rejects, disconnects, retries, exhausts, row_of}
-use Rattle.direct.proofs.Kept.{fresh_kept, reached, turn_keeps, is_not, check_311, idle_fresh, idle_is, check_is}
+use Rattle.direct.proofs.Kept.{fresh_kept, reached, turn_keeps, check_311, idle_fresh, idle_is, check_is}
 
 -- ---- one turn
 
@@ -160,7 +160,7 @@ runs_in_check c ok run = by c.state refl
     by : (s : State) → c.state ≡ s → c.state ≡ State.PresenceCheck
     by State.Idle st = apart run (ap (λ (x : Call). x.dt303) (idle_fresh c ok st))
     by State.PresenceCheck st = st
-    by State.Active st = apart run (is_not _ (both (in_limits c) _ (both _ c.dt311 (sym (sound_in_lem c State.Active st) ∙ ok)).0).1)
+    by State.Active st = apart run (not-true _ (both (in_limits c) _ (both _ c.dt311 (sym (sound_in_lem c State.Active st) ∙ ok)).0).1)
 
 module _ (c : Call) (t : Turn) (ok : sound c ≡ true) (run : c.dt303 ≡ true) where
   due_row : (e : Event) {d : Draft} → read events t.event ≡ taken e → beyond e ≡ false → waiting c e ≡ d → d.taken ≡ true → sizes_of (messages_in d) ≤ length t.buffer → taken_by c t ≡ some e

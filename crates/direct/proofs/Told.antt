@@ -2,7 +2,7 @@
 -- lowest to target of the request.
 use Prim.Native.Nat.{ℕ, ◌+◌, ◌≤◌}
 use mathlib.Core.Path.{◌≡◌, refl, ◌∙◌, ap}
-use mathlib.Core.Bool.{Bool, true, false, cond, not, ◌&&◌}
+use mathlib.Core.Bool.{true, false, cond, not, ◌&&◌, not-and_self}
 use mathlib.Core.List.{List, [], ◌∷◌}
 use mathlib.Core.Option.{some}
 use native.Mathlib.Omega.{arith}
@@ -25,10 +25,6 @@ use Rattle.direct.proofs.Turns.{apart, Turned, passed, took, turned, accepts, Wh
 -- the state's tests, before and after a row
 before_after : (p : ℕ) (c x : Call) {s s' : State} → c.state ≡ s → x.state ≡ s' → (not (eqb (state_number c.state) p) && eqb (state_number x.state) p) ≡ (not (eqb (state_number s) p) && eqb (state_number s') p)
 before_after p c x {s} h h' = ap (λ (y : State). not (eqb (state_number y) p) && eqb (state_number x.state) p) h ∙ ap (λ (y : State). not (eqb (state_number s) p) && eqb (state_number y) p) h'
-
-never_both : (b : Bool) → (not b && b) ≡ false
-never_both true = refl
-never_both false = refl
 
 module _ (c : Call) where
   indicates : (e : Event) (d : Draft) → Which c e d → count is_release_indication (messages_in d) ≡ cond (not (is_idle c) && is_idle d.call) 1 0
@@ -61,7 +57,7 @@ one_indication ts t = by (turned c t)
     c = run fresh_call ts
 
     by : Turned c t → count is_release_indication (written_by c t) ≡ cond (enters_idle c t) 1 0
-    by (passed p) = rw (p.writes, p.leaves, never_both (is_idle c))
+    by (passed p) = rw (p.writes, p.leaves, not-and_self (is_idle c))
     by (took e a) = rw (a.writes, a.leaves) (indicates c e (row_for c e) (row_of a))
 
 pub one_confirm : OneConfirm
@@ -72,7 +68,7 @@ one_confirm ts t = by (turned c t)
     c = run fresh_call ts
 
     by : Turned c t → count is_setup_confirm (written_by c t) ≡ cond (enters_active c t) 1 0
-    by (passed p) = rw (p.writes, p.leaves, never_both (is_active c))
+    by (passed p) = rw (p.writes, p.leaves, not-and_self (is_active c))
     by (took e a) = rw (a.writes, a.leaves) (confirms c e (row_for c e) (row_of a))
 
 -- ---- what is held is what was asked
@@ -139,7 +135,7 @@ module _ (c : Call) (t : Turn) (a : Asked) (held : is_idle c ≡ false → Holds
   active_within h = by (turned c t)
     where
       by : Turned c t → Within c t a
-      by (passed p) = apart h (rw p.leaves (never_both (is_active c)))
+      by (passed p) = apart h (rw p.leaves (not-and_self (is_active c)))
       by (took e w) = connects_within e (row_for c e) (row_of w) w.takes w.leaves w.writes (both (not (is_active c)) (is_active (next c t)) h).1
 
   releases : (g : ℕ) (d : Draft) → Which c (DmConnect g) d → next c t ≡ d.call → (leb a.lowest g && leb g a.target) ≡ false → next c t ≡ fresh_call

@@ -1,6 +1,7 @@
 -- The record of an outgoing direct mode call: fresh, its limits, and what makes it sound.
-use Rattle.std.specs.Prelude.{ℕ, Bool, false, not, ◌&&◌, leb, eqb}
+use Rattle.std.specs.Prelude.{◌≡◌, ℕ, ◌<◌, Bool, false, not, ◌&&◌, leb, eqb, Result, MatchResult}
 use Rattle.direct.specs.declared.call.State.{State}
+use Rattle.direct.specs.declared.call.UnknownState.{UnknownState}
 use Rattle.direct.specs.declared.call.Call.{Call}
 
 abbrev pub fresh_call : Call
@@ -11,6 +12,10 @@ abbrev pub state_number : State → ℕ
 state_number State.Idle = 0
 state_number State.PresenceCheck = 1
 state_number State.Active = 2
+
+-- the state of a number; above 2 there is none
+abbrev pub StateOf : ℕ → Result State UnknownState → Type 0
+StateOf n r = MatchResult r (λ state. state_number state ≡ n) (λ e. (e.0 ≡ n) × (2 < n))
 
 -- all but the state as in the fresh record
 unfoldable pub as_fresh : Call → Bool

@@ -1,10 +1,9 @@
 -- The table of direct mode's events, and what its lines stand for.
-use Rattle.std.specs.Prelude.{true, List, [], ◌∷◌}
+use Rattle.std.specs.Prelude.{ℕ, true, List, [], ◌∷◌}
 use Rattle.records.specs.Letters.{Letter, any, v, n₂}
-use Rattle.records.specs.Bodies.{Values}
-use Rattle.records.specs.Tables.{Row, row, Table, Read, taken, refused}
+use Rattle.records.specs.Bodies.{Values, flat_bytes}
+use Rattle.records.specs.Tables.{Row, row, Table, flat}
 use Rattle.direct.specs.declared.events.Event.{Event}
-use Rattle.direct.specs.declared.events.EventRead.{EventRead}
 
 -- the letters of direct mode: t a grade of service, l the lowest that is accepted, m attempts, each of them any byte
 abbrev pub t : Letter
@@ -63,9 +62,6 @@ events =
       clash = 0;
     }
 
--- the paper's number and value for each case of the code's answer
-abbrev pub as_event_read : EventRead → Read Event
-as_event_read (EventRead.Is e) = taken e
-as_event_read EventRead.BadLength = refused 2 0
-as_event_read EventRead.UnknownKind = refused 3 0
-as_event_read (EventRead.BadBody place) = refused 4 place
+-- an event as bytes
+unfoldable pub event_bytes : Event → List ℕ
+event_bytes e = flat_bytes (flat events e)

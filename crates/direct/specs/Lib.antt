@@ -1,7 +1,7 @@
 -- What the promises of this crate cite: the tables of events and messages, the record, the rows, the step; and what is claimed of every run.
-pub mod Fields
 pub mod Events
 pub mod Messages
+pub mod Records
 pub mod Call
 pub mod Draft
 pub mod Rows

@@ -1,9 +1,8 @@
 -- The table of direct mode's messages, and what its lines stand for.
 use Rattle.std.specs.Prelude.{ℕ, ◌+◌, true, List, [], ◌∷◌, ◌++◌}
 use Rattle.records.specs.Bodies.{Values, flat_bytes, flat_size}
-use Rattle.records.specs.Tables.{Row, row, Table, Read, taken, refused, flat}
+use Rattle.records.specs.Tables.{Row, row, Table, flat}
 use Rattle.direct.specs.declared.messages.Message.{Message}
-use Rattle.direct.specs.declared.messages.MessageRead.{MessageRead}
 use Rattle.direct.specs.Events.{t, l, n}
 
 pub data MessageKind : Type 0 where
@@ -58,13 +57,6 @@ messages =
       agrees = λ m. true;
       clash = 0;
     }
-
--- the paper's number and value for each case of the code's answer
-abbrev pub as_message_read : MessageRead → Read Message
-as_message_read (MessageRead.Is m) = taken m
-as_message_read MessageRead.BadLength = refused 2 0
-as_message_read MessageRead.UnknownKind = refused 3 0
-as_message_read (MessageRead.BadBody place) = refused 4 place
 
 -- a message as bytes, and how many they are
 unfoldable pub message_bytes : Message → List ℕ

@@ -6,7 +6,6 @@ use Rattle.direct.specs.declared.events.Event.TheVariants.{SetupRequest, DmaRepo
 use Rattle.direct.specs.declared.messages.Message.TheVariants.{DmSetupPres, DmConnectAck, DmRelease, SetupConfirm, ReleaseIndication}
 use Rattle.direct.specs.declared.call.State.{State}
 use Rattle.direct.specs.declared.call.Call.{Call}
-use Rattle.direct.specs.declared.rows.Row.{Row}
 use Rattle.direct.specs.Draft.{Draft, ◌▷◌, draft, no_row, go, store, attempts, over, start_dt303, start_dt311, stop_dt303, expired_dt303, say, configure, tell}
 
 -- each row, by its words
@@ -77,14 +76,3 @@ in_state State.Active c e = no_row c
 
 unfoldable pub row_for : Call → Event → Draft
 row_for c e = in_state c.state c e
-
--- what the code's row stands for
-abbrev pub meaning : Call → Row → Draft
-meaning c (Row.Asked t l m) = asked t l m c
-meaning c Row.Awaited = awaited c
-meaning c Row.GivenUp = given_up c
-meaning c (Row.Connected t) = connected t c
-meaning c Row.Released = released c
-meaning c (Row.Again n) = again n c
-meaning c Row.Exhausted = exhausted c
-meaning c Row.NoRow = no_row c

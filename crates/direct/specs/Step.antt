@@ -1,12 +1,13 @@
 -- The step: the answers in their order, and what each gives back.
-use Rattle.std.specs.Prelude.{ℕ, Bool, false, cond, not, ◌||◌, List, leb, length}
+use Rattle.std.specs.Prelude.{ℕ, Bool, false, cond, not, ◌||◌, List, leb, length, Result, Ok, Err}
 use Rattle.std.proofs.lemmas.List.Edits.{sets}
+use Rattle.records.specs.Bodies.{unreadable_number, unreadable_place}
 use Rattle.records.specs.Tables.{Read, taken, refused, read}
 use Rattle.direct.specs.declared.events.Event.{Event}
 use Rattle.direct.specs.declared.events.Event.TheVariants.{SetupRequest, DmaReport, DmConnect, DmDisconnect, Expiry}
-use Rattle.direct.specs.declared.events.EventRead.{EventRead}
+use Rattle.direct.specs.declared.messages.Message.{Message}
 use Rattle.direct.specs.declared.call.Call.{Call}
-use Rattle.direct.specs.declared.step.Answer.{Answer}
+use Rattle.direct.specs.declared.step.Refusal.{Refusal}
 use Rattle.direct.specs.declared.step.Stepped.{Stepped}
 use Rattle.direct.specs.Events.{events}
 use Rattle.direct.specs.Messages.{bytes_of}
@@ -59,34 +60,29 @@ when_read (refused n place) c buffer = refusal_at n place c buffer
 unfoldable pub step_of : Call → List ℕ → List ℕ → Outcome
 step_of c bytes buffer = cond (sound c) (when_read (read events bytes) c buffer) (refusal 1 c buffer)
 
--- the code's answer as the paper's number
-abbrev pub answer_number : Answer → ℕ
-answer_number Answer.Taken = 0
-answer_number Answer.NotSound = 1
-answer_number Answer.BadLength = 2
-answer_number Answer.UnknownKind = 3
-answer_number Answer.BadBody = 4
-answer_number Answer.NoRoom = 7
-answer_number Answer.BeyondLimits = 60
-answer_number Answer.NoRow = 61
+-- the code's refusal as the paper's number, and the place that comes with it
+abbrev pub refusal_number : Refusal → ℕ
+refusal_number Refusal.NotSound = 1
+refusal_number (Refusal.Unreadable u) = unreadable_number u
+refusal_number Refusal.NoRoom = 7
+refusal_number Refusal.BeyondLimits = 60
+refusal_number Refusal.NoRow = 61
 
-abbrev pub as_outcome : Stepped → List ℕ → Outcome
-as_outcome r buffer = record { answer = answer_number r.answer; place = r.place; call = r.call; count = r.count; buffer = buffer }
+abbrev pub refusal_place : Refusal → ℕ
+refusal_place Refusal.NotSound = 0
+refusal_place (Refusal.Unreadable u) = unreadable_place u
+refusal_place Refusal.NoRoom = 0
+refusal_place Refusal.BeyondLimits = 0
+refusal_place Refusal.NoRow = 0
 
--- the code's refusal
-abbrev pub refusing : Answer → ℕ → Call → Stepped
-refusing a place c = record { answer = a; place = place; count = 0; call = c }
+-- the code's answer, of a step on a record
+abbrev pub as_outcome : Call → Result Stepped Refusal → List ℕ → Outcome
+as_outcome c (Ok r) buffer = record { answer = 0; place = 0; call = r.call; count = r.count; buffer = buffer }
+as_outcome c (Err e) buffer = refusal_at (refusal_number e) (refusal_place e) c buffer
 
--- the code's answer where no event was read
-abbrev pub unread_as : EventRead → Answer
-unread_as (EventRead.Is e) = Answer.Taken
-unread_as EventRead.BadLength = Answer.BadLength
-unread_as EventRead.UnknownKind = Answer.UnknownKind
-unread_as (EventRead.BadBody place) = Answer.BadBody
-
--- and the place that comes with it
-abbrev pub place_in : EventRead → ℕ
-place_in (EventRead.Is e) = 0
-place_in EventRead.BadLength = 0
-place_in EventRead.UnknownKind = 0
-place_in (EventRead.BadBody place) = place
+-- messages into the lent buffer where they fit, and the record after them
+unfoldable pub sent : List Message → Call → List ℕ → Result Stepped Refusal × List ℕ
+sent ms next buffer =
+    cond (leb (length (bytes_of ms)) (length buffer))
+    (Ok (record { count = length (bytes_of ms); call = next }), sets buffer 0 (bytes_of ms))
+    (Err Refusal.NoRoom, buffer)

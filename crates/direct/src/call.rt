@@ -1,19 +1,38 @@
 // The record of an outgoing direct mode call, and what makes it sound.
 ghost use Rattle.std.specs.Prelude.{◌≡◌};
-ghost use Rattle.direct.specs.Call.{fresh_call, as_fresh, in_limits, sound, state_number};
+ghost use Rattle.direct.specs.Call.{fresh_call, as_fresh, in_limits, sound, StateOf};
 
 // Where the call is. The numbers are those of a host's record.
-#[derive(Clone, Copy)]
+#[derive(Clone, Copy, Debug, PartialEq, Eq)]
 pub enum State {
-    // 0 IDLE: no call.
-    Idle,
-    // 1 CALL SETUP PRES_CHECK ORIGINATING: DM-SETUP PRES is sent, and the called set has not accepted.
-    PresenceCheck,
-    // 2 CALL ACTIVE TX OCCUPATION: the called set has accepted.
-    Active,
+    // IDLE: no call.
+    Idle = 0,
+    // CALL SETUP PRES_CHECK ORIGINATING: DM-SETUP PRES is sent, and the called set has not accepted.
+    PresenceCheck = 1,
+    // CALL ACTIVE TX OCCUPATION: the called set has accepted.
+    Active = 2,
 }
 
-#[derive(Clone, Copy)]
+// A number that no state has.
+#[derive(Clone, Copy, Debug, PartialEq, Eq)]
+pub struct UnknownState(pub u8);
+
+impl TryFrom<u8> for State {
+    type Error = UnknownState;
+
+    ghost try_from_gives = { StateOf };
+
+    fn try_from(number: u8) -> Result<Self, UnknownState> {
+        match number {
+            0 => Ok(State::Idle),
+            1 => Ok(State::PresenceCheck),
+            2 => Ok(State::Active),
+            _ => Err(UnknownState(number)),
+        }
+    }
+}
+
+#[derive(Clone, Copy, Debug, PartialEq, Eq)]
 pub struct Call {
     pub state: State,
     // The grade of service asked for; higher is better.
@@ -28,16 +47,6 @@ pub struct Call {
     pub dt303: bool,
     // Whether DT311 runs: the set occupies the channel.
     pub dt311: bool,
-}
-
-pub fn state_number(state: State) -> u8
-    ensures { result ≡ state_number state }
-{
-    match state {
-        State::Idle => 0,
-        State::PresenceCheck => 1,
-        State::Active => 2,
-    }
 }
 
 impl Call {
@@ -61,37 +70,37 @@ impl Call {
     }
 
     // All but the state as in the fresh record.
+    #[tactic(auto, unfolding(crate::specs::Call::as_fresh))]
     fn as_fresh(self) -> bool
         ensures { result ≡ as_fresh self }
     {
-        (self.target == 0)
-            & (self.lowest == 0)
-            & (self.limit == 0)
-            & (self.used == 0)
-            & !self.dt303
-            & !self.dt311
+        Call {
+            state: State::Idle,
+            ..self
+        } == Call::fresh()
     }
 
     // The numbers of a call in range.
+    #[tactic(auto, unfolding(crate::specs::Call::in_limits))]
     fn in_limits(self) -> bool
         ensures { result ≡ in_limits self }
     {
-        (Self::LIMIT_LEAST <= self.limit)
-            & (self.limit <= Self::LIMIT_MOST)
-            & (1 <= self.used)
-            & (self.used <= self.limit)
-            & (self.lowest <= self.target)
+        Self::LIMIT_LEAST <= self.limit
+            && self.limit <= Self::LIMIT_MOST
+            && 1 <= self.used
+            && self.used <= self.limit
+            && self.lowest <= self.target
     }
 
     // IDLE only if fresh, else the numbers in range; DT303 runs only in PRESENCE CHECK, DT311 exactly in ACTIVE.
+    #[tactic(auto, unfolding(crate::specs::Call::sound))]
     pub fn sound(self) -> bool
         ensures { result ≡ sound self }
     {
-        let state = self.state;
-        match state {
+        match self.state {
             State::Idle => self.as_fresh(),
-            State::PresenceCheck => self.in_limits() & !self.dt311,
-            State::Active => self.in_limits() & !self.dt303 & self.dt311,
+            State::PresenceCheck => self.in_limits() && !self.dt311,
+            State::Active => self.in_limits() && !self.dt303 && self.dt311,
         }
     }
 }

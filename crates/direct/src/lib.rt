@@ -3,8 +3,6 @@
 
 pub mod call;
 pub mod events;
-mod fields;
-mod laying;
 pub mod messages;
 mod rows;
 pub mod step;

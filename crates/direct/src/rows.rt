@@ -1,126 +1,159 @@
-// Which row an event has in each situation. What a row does stands in `step`.
-ghost use Rattle.std.specs.Prelude.{◌≡◌};
-ghost use Rattle.direct.specs.Rows.{acceptable, idle, reporting, waiting, row_for, meaning};
+// The rows: what each event does in each situation. A row sends its messages and gives the next record; a situation without a row for the event refuses it.
+ghost use Rattle.std.specs.Prelude.{◌≡◌, List, ℕ, Result};
+ghost use Rattle.direct.specs.Rows.{acceptable, idle, reporting, waiting, row_for};
+ghost use Rattle.direct.specs.Step.{sent, carried, as_outcome};
 
 use crate::call::{Call, State};
 use crate::events::Event;
+use crate::messages::Message;
+use crate::step::{Refusal, Stepped};
+use records::record::Record;
 
-// The row of an event, with the values of the event that it uses.
-#[derive(Clone, Copy)]
-pub enum Row {
-    // The user asks for a call: the first DM-SETUP PRES.
-    Asked { target: u8, lowest: u8, limit: u8 },
-    // DM-SETUP PRES is sent: an answer is waited for.
-    Awaited,
-    // DM-SETUP PRES could not be sent: the user is told.
-    GivenUp,
-    // The called set accepts at a grade that is acceptable.
-    Connected { grade: u8 },
-    // The called set rejects, or offers what is not acceptable.
-    Released,
-    // No answer came, and attempts remain: the next DM-SETUP PRES.
-    Again { used: u8 },
-    // No answer came, and no attempt remains.
-    Exhausted,
-    // The situation has no row for the event.
-    NoRow,
+// Messages, one after the other, and the next record; nothing where they do not fit.
+fn send(messages: &[Message], call: Call, buffer: &mut [u8]) -> Result<Stepped, Refusal>
+    ensures { ◌≡◌ {A = Result Stepped Refusal × List ℕ} (result, buffer.new) (sent messages.now call buffer.old) }
+{
+    let mut room = buffer.len();
+    for message in messages {
+        let size = message.size();
+        if room < size {
+            return Err(Refusal::NoRoom);
+        }
+        room -= size;
+    }
+    let mut count = 0;
+    for message in messages {
+        count = message.lay(buffer, count);
+    }
+    Ok(Stepped { count, call })
 }
 
 // The offers that the user takes: from lowest to target.
+#[tactic(auto, unfolding(crate::specs::Rows::acceptable))]
 fn acceptable(call: Call, grade: u8) -> bool
     ensures { result ≡ acceptable call grade }
 {
-    (call.lowest <= grade) & (grade <= call.target)
+    call.lowest <= grade && grade <= call.target
 }
 
 // IDLE.
-fn idle(call: Call, event: Event) -> Row
-    ensures { meaning call result ≡ idle call event }
+#[tactic(auto, unfolding(crate::specs::Step::carried))]
+fn idle(call: Call, event: Event, buffer: &mut [u8]) -> Result<Stepped, Refusal>
+    ensures { as_outcome call result buffer.new ≡ carried call (idle call event) buffer.old }
 {
     match event {
+        // The user asks for a call: the first DM-SETUP PRES.
         Event::SetupRequest {
             target,
             lowest,
             attempts,
-        } => Row::Asked {
-            target,
-            lowest,
-            limit: attempts,
-        },
-        Event::DmaReport { fared: _ } => Row::NoRow,
-        Event::DmConnect { grade: _ } => Row::NoRow,
-        Event::DmDisconnect => Row::NoRow,
-        Event::Expiry { timer: _ } => Row::NoRow,
+        } => send(
+            &[Message::DmSetupPres { target, lowest }],
+            Call {
+                state: State::PresenceCheck,
+                target,
+                lowest,
+                limit: attempts,
+                used: 1,
+                ..call
+            },
+            buffer,
+        ),
+        _ => Err(Refusal::NoRow),
     }
 }
 
 // PRESENCE CHECK, DT303 stopped.
-fn reporting(call: Call, event: Event) -> Row
-    ensures { meaning call result ≡ reporting call event }
+#[tactic(auto, unfolding(crate::specs::Step::carried))]
+fn reporting(call: Call, event: Event, buffer: &mut [u8]) -> Result<Stepped, Refusal>
+    ensures { as_outcome call result buffer.new ≡ carried call (reporting call event) buffer.old }
 {
     match event {
-        Event::SetupRequest {
-            target: _,
-            lowest: _,
-            attempts: _,
-        } => Row::NoRow,
-        Event::DmaReport { fared } => {
-            if fared == 0 {
-                return Row::Awaited;
-            }
-            Row::GivenUp
-        }
-        Event::DmConnect { grade: _ } => Row::NoRow,
-        Event::DmDisconnect => Row::NoRow,
-        Event::Expiry { timer: _ } => Row::NoRow,
+        // DM-SETUP PRES is sent: an answer is waited for.
+        Event::DmaReport { fared: 0 } => send(
+            &[Message::Start { timer: 303 }],
+            Call {
+                dt303: true,
+                ..call
+            },
+            buffer,
+        ),
+        // It could not be sent: the user is told.
+        Event::DmaReport { fared: _ } => send(&[Message::ReleaseIndication], Call::fresh(), buffer),
+        _ => Err(Refusal::NoRow),
     }
 }
 
 // PRESENCE CHECK, DT303 running.
-fn waiting(call: Call, event: Event) -> Row
-    ensures { meaning call result ≡ waiting call event }
+#[tactic(auto, unfolding(crate::specs::Step::carried))]
+fn waiting(call: Call, event: Event, buffer: &mut [u8]) -> Result<Stepped, Refusal>
+    ensures { as_outcome call result buffer.new ≡ carried call (waiting call event) buffer.old }
 {
+    let stop = Message::Stop { timer: 303 };
     match event {
-        Event::SetupRequest {
-            target: _,
-            lowest: _,
-            attempts: _,
-        } => Row::NoRow,
-        Event::DmaReport { fared: _ } => Row::NoRow,
-        Event::DmConnect { grade } => {
-            if acceptable(call, grade) {
-                return Row::Connected { grade };
-            }
-            Row::Released
-        }
-        Event::DmDisconnect => Row::Released,
-        Event::Expiry { timer } => {
-            if timer != 303 {
-                return Row::NoRow;
-            }
-            if call.used < call.limit {
-                return Row::Again {
-                    used: call.used + 1,
-                };
-            }
-            Row::Exhausted
-        }
+        // The called set accepts at a grade that is acceptable.
+        Event::DmConnect { grade } if acceptable(call, grade) => send(
+            &[
+                stop,
+                Message::DmConnectAck { grade },
+                Message::Start { timer: 311 },
+                Message::Configure { grade },
+                Message::SetupConfirm { grade },
+            ],
+            Call {
+                state: State::Active,
+                dt303: false, // stopped
+                dt311: true,
+                ..call
+            },
+            buffer,
+        ),
+        // It rejects, or offers what is not acceptable.
+        Event::DmConnect { grade: _ } | Event::DmDisconnect => send(
+            &[stop, Message::DmRelease, Message::ReleaseIndication],
+            Call::fresh(),
+            buffer,
+        ),
+        // No answer came, and attempts remain: the next DM-SETUP PRES.
+        Event::Expiry { timer: 303 } if call.used < call.limit => send(
+            &[
+                Message::DmRelease,
+                Message::DmSetupPres {
+                    target: call.target,
+                    lowest: call.lowest,
+                },
+            ],
+            Call {
+                used: call.used + 1,
+                dt303: false, // expired
+                ..call
+            },
+            buffer,
+        ),
+        // No answer came, and no attempt remains.
+        Event::Expiry { timer: 303 } => send(
+            &[Message::DmRelease, Message::ReleaseIndication],
+            Call::fresh(),
+            buffer,
+        ),
+        _ => Err(Refusal::NoRow),
     }
 }
 
 // The row of an event, by the situation of the call.
-pub fn row_for(call: Call, event: Event) -> Row
-    ensures { meaning call result ≡ row_for call event }
+#[tactic(auto, unfolding(crate::specs::Rows::row_for, crate::specs::Step::carried))]
+pub fn row_for(call: Call, event: Event, buffer: &mut [u8]) -> Result<Stepped, Refusal>
+    ensures { as_outcome call result buffer.new ≡ carried call (row_for call event) buffer.old }
 {
-    let state = call.state;
-    match state {
-        State::Idle => idle(call, event),
+    match call.state {
+        State::Idle => idle(call, event, buffer),
         State::PresenceCheck => {
             if call.dt303 {
-                return waiting(call, event);
+                waiting(call, event, buffer)
+            } else {
+                reporting(call, event, buffer)
             }
-            reporting(call, event)
         }
-        State::Active => Row::NoRow,
+        State::Active => Err(Refusal::NoRow), // occupation is beyond the setup of a call
     }
 }

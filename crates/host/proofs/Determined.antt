@@ -15,9 +15,7 @@ use Rattle.host.proofs.callcontrol_copy_event.Reads as copy-event-promise
 use Rattle.host.proofs.callcontrol_copy_message.Reads as copy-message-promise
 use Rattle.host.proofs.packed.is_record.Reads as is-record-promise
 use Rattle.host.proofs.packed.held.Reads as held-promise
-use Rattle.host.proofs.packed.flag.Reads as flag-promise
-use Rattle.host.proofs.packed.word_at.Reads as word-at-promise
-use Rattle.host.proofs.packed.long_at.Reads as long-at-promise
+use Rattle.host.proofs.packed.unpacked.Reads as unpacked-promise
 use Rattle.host.proofs.packed.pack.Reads as pack-promise
 use Rattle.host.proofs.serial.callcontrol_pieces_fresh.Reads as pieces-fresh-promise
 use Rattle.host.proofs.serial.callcontrol_pieces_next.Reads as pieces-next-promise
@@ -84,20 +82,14 @@ channel_ended κs a r₁ r₂ e₁ e₂ p q = p ∙ sym q
 
 -- ---- a record's bytes, for the other archives
 
-pub is_record_lem : (κs : _) (a : _) (r₁ r₂ : _) (e₁ e₂ : _) → is-record-promise.Learnt κs a r₁ e₁ → is-record-promise.Learnt κs a r₂ e₂ → r₁ ≡ r₂
-is_record_lem κs a r₁ r₂ e₁ e₂ p q = p ∙ sym q
+pub is_record : (κs : _) (a : _) (r₁ r₂ : _) (e₁ e₂ : _) → is-record-promise.Learnt κs a r₁ e₁ → is-record-promise.Learnt κs a r₂ e₂ → r₁ ≡ r₂
+is_record κs a r₁ r₂ e₁ e₂ p q = p ∙ sym q
+
+pub unpacked : (κs : _) (a : _) (r₁ r₂ : _) (e₁ e₂ : _) → unpacked-promise.Learnt κs a r₁ e₁ → unpacked-promise.Learnt κs a r₂ e₂ → r₁ ≡ r₂
+unpacked κs a r₁ r₂ e₁ e₂ p q = p ∙ sym q
 
 pub held : (κs : _) (a : _) (r₁ r₂ : _) (e₁ e₂ : _) → held-promise.Learnt κs a r₁ e₁ → held-promise.Learnt κs a r₂ e₂ → r₁ ≡ r₂
 held κs a r₁ r₂ e₁ e₂ p q = p ∙ sym q
-
-pub flag : (κs : _) (a : _) (r₁ r₂ : _) (e₁ e₂ : _) → flag-promise.Learnt κs a r₁ e₁ → flag-promise.Learnt κs a r₂ e₂ → r₁ ≡ r₂
-flag κs a r₁ r₂ e₁ e₂ p q = p ∙ sym q
-
-pub word_at : (κs : _) (a : _) (r₁ r₂ : _) (e₁ e₂ : _) → word-at-promise.Learnt κs a r₁ e₁ → word-at-promise.Learnt κs a r₂ e₂ → r₁ ≡ r₂
-word_at κs a r₁ r₂ e₁ e₂ p q = p ∙ sym q
-
-pub long_at : (κs : _) (a : _) (r₁ r₂ : _) (e₁ e₂ : _) → long-at-promise.Learnt κs a r₁ e₁ → long-at-promise.Learnt κs a r₂ e₂ → r₁ ≡ r₂
-long_at κs a r₁ r₂ e₁ e₂ p q = p ∙ sym q
 
 pub pack : (κs : _) (a : _) (r₁ r₂ : _) (e₁ e₂ : _) → pack-promise.Learnt κs a r₁ e₁ → pack-promise.Learnt κs a r₂ e₂ → e₁.1.0.now ≡ e₂.1.0.now
 pack κs a r₁ r₂ e₁ e₂ p q = p ∙ sym q

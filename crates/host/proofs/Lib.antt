@@ -12,3 +12,4 @@ pub mod Runs
 pub mod SerialLine
 pub mod SerialRuns
 pub mod Small
+pub mod Tested

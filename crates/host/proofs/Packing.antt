@@ -1,14 +1,14 @@
 -- What is packed is unpacked as the same record, and what is unpacked is packed as the same bytes.
 use Prim.Native.Nat.{ℕ, zero, suc, ◌+◌, ◌*◌, ◌/◌, ◌%◌, ◌≤◌, ◌<◌}
-use mathlib.Core.Path.{◌≡◌, refl, sym}
+use mathlib.Core.Path.{◌≡◌, refl, sym, ◌∙◌, ap}
 use mathlib.Core.Bool.{Bool, true, false}
-use mathlib.Core.List.{List, [], ◌∷◌}
+use mathlib.Core.List.{List, [], ◌∷◌, ◌++◌, append-nil}
 use mathlib.Core.Option.{some}
 use native.Mathlib.Omega.{arith}
 use borrow.Author.Tests.{leb-true, eqb-true}
 use lib.Dec.{leb, eqb}
 use lib.ListN.{length, get_or, drop, drop_of_length-le}
-use lib.Seq.{drop-cons}
+use lib.Seq.{drop-cons, sets, sets-eq}
 use Rattle.records.specs.Bytes.{number, bytes}
 use Rattle.callcontrol.specs.declared.call.State.{State}
 use Rattle.callcontrol.specs.declared.call.Path.{Path}
@@ -150,3 +150,35 @@ held_is_packed s small ok =
       flag_back (get_or s 20 0) (leb-true _ _ t311),
     )
     (items_drop 22 0 s 0 (eqb-true _ _ whole))
+
+-- ---- the last of a list of arms: what no earlier one has
+
+pub last_state : (n : ℕ) → (n ≡ 0 → ⊥) → (n ≡ 1 → ⊥) → (n ≡ 2 → ⊥) → (n ≡ 3 → ⊥) → (n ≡ 4 → ⊥) → State.CallDisconnect ≡ state_is n
+last_state zero a b c d e = absurd (a refl)
+last_state (suc zero) a b c d e = absurd (b refl)
+last_state (suc (suc zero)) a b c d e = absurd (c refl)
+last_state (suc (suc (suc zero))) a b c d e = absurd (d refl)
+last_state (suc (suc (suc (suc zero)))) a b c d e = absurd (e refl)
+last_state (suc (suc (suc (suc (suc n))))) a b c d e = refl
+
+pub last_path : (n : ℕ) → (n ≡ 1 → ⊥) → (n ≡ 2 → ⊥) → Path.Up ≡ path_is n
+last_path zero b c = refl
+last_path (suc zero) b c = absurd (b refl)
+last_path (suc (suc zero)) b c = absurd (c refl)
+last_path (suc (suc (suc n))) b c = refl
+
+-- four bytes by one division each
+pub four_of : (v : ℕ) → v % 256 ∷ v / 256 % 256 ∷ v / 65536 % 256 ∷ v / 16777216 % 256 ∷ [] ≡ bytes 4 v
+unfolding bytes
+four_of v =
+    let third : v / 65536 % 256 ≡ v / 256 / 256 % 256 = omega arith in
+    let fourth : v / 16777216 % 256 ≡ v / 256 / 256 / 256 % 256 = omega arith in
+    rw (third, fourth)
+
+pub packed_long : (c : Call) → length (packed c) ≡ 22
+unfolding packed names settings running bytes
+packed_long c = refl
+
+-- stored over as many, a list is what is there
+pub whole_stored : (s l : List ℕ) → length s ≡ length l → sets s 0 l ≡ l
+whole_stored s l e = sets-eq l s 0 (omega (arith, e)) ∙ ap (λ (r : List ℕ). l ++ r) (drop_of_length-le s {i = 0 + length l} (omega (arith, e))) ∙ append-nil l

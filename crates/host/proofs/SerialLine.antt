@@ -1,21 +1,24 @@
 -- A reader as 2 bytes, there and back; and what the entries answer, from what their callees give.
 use Prim.Native.Nat.{ℕ, zero, suc, ◌≤◌}
 use mathlib.Core.Path.{◌≡◌, refl, sym, ◌∙◌, ap, subst}
-use mathlib.Core.Bool.{Bool, true, false, not}
+use mathlib.Core.Bool.{Bool, true, false, cond}
 use mathlib.Core.List.{List, [], ◌∷◌}
 use native.Mathlib.Omega.{arith}
-use borrow.Author.Tests.{not-true, not-false, eqb-true, leb-true, le-leb}
+use borrow.Author.Tests.{eqb-true, leb-true, le-leb}
 use lib.Dec.{eqb, leb}
 use lib.ListN.{length, get_or}
 use lib.Seq.{sets}
 use Rattle.pieces.specs.declared.reader.Reader.{Reader}
+use Rattle.std.specs.Prelude.{Some, None, Result, Ok, Err}
+use Rattle.pieces.specs.declared.reader.Refusal.{Refusal}
 use Rattle.pieces.specs.declared.reader.Found.{Found}
-use Rattle.pieces.specs.Next.{Outcome, answer_number, where_number, as_outcome, next_of}
+use Rattle.pieces.specs.Next.{Outcome, as_outcome, next_of}
 use Rattle.pieces.specs.Claims.{Small}
 use Rattle.pieces.proofs.Claims.{small_numbers}
 use Rattle.host.specs.Packing.{flag}
 use Rattle.host.specs.SerialLine.{reader_bytes, is_reader, reader_of, found_word, LeftByPiece, left_by, host_next, ReaderIsUnpacked, ReaderIsPacked, ReaderStays}
 use Rattle.demands.proofs.Facts.{left, right}
+use Rattle.host.proofs.Tested.{some_by_test, none_by_test}
 
 -- ---- two bytes
 
@@ -77,27 +80,28 @@ reader_stays s carry piece is =
 
 -- ---- the entries
 
-pub no_reader : (s carry piece : List ℕ) {is : Bool} → is ≡ is_reader s → not is ≡ true
+pub no_reader : (s carry piece : List ℕ) → None ≡ cond (is_reader s) (Some (reader_of s)) None
     → ◌≡◌ {A = LeftByPiece} (record { result = 16777216; reader = s; carry = carry }) (host_next s carry piece)
 unfolding host_next
-no_reader s carry piece {is} tested other = rw (← tested, not-true is other)
+no_reader s carry piece none = rw (none_by_test _ _ none)
 
-pub a_reader : (s : List ℕ) {is : Bool} → is ≡ is_reader s → not is ≡ false → Two s
-a_reader s {is} tested so = is_two s (sym tested ∙ not-false is so)
+pub a_reader : (s : List ℕ) {r : Reader} → Some r ≡ cond (is_reader s) (Some (reader_of s)) None → Two s
+a_reader s held = is_two s (some_by_test _ held).0
 
-module _
-    (s carry piece : List ℕ) (f : Found) {is : Bool} {r : Reader} {then : List ℕ} (tested : is ≡ is_reader s) (so : not is ≡ false)
-    (holds : r ≡ reader_of s) (found : as_outcome f then ≡ next_of r carry piece) where
-  of_the_bytes : as_outcome f then ≡ next_of (reader_of s) carry piece
-  of_the_bytes = found ∙ ap (λ (x : Reader). next_of x carry piece) holds
+module _ (s carry piece : List ℕ) (o : Outcome) (r : Reader) (held : Some r ≡ cond (is_reader s) (Some (reader_of s)) None) (found : o ≡ next_of r carry piece) where
+  of_the_bytes : o ≡ next_of (reader_of s) carry piece
+  of_the_bytes = found ∙ ap (λ (x : Reader). next_of x carry piece) (sym (some_by_test _ held).1)
 
   -- what is found has small numbers
-  pub small : Small (as_outcome f then)
-  small = subst (λ (o : Outcome). Small o) (sym of_the_bytes) (small_numbers (reader_of s) carry piece (a_reader s tested so).carried)
+  pub small : Small o
+  small = subst (λ (o : Outcome). Small o) (sym of_the_bytes) (small_numbers (reader_of s) carry piece (a_reader s held).carried)
 
-  pub hands_on : {w : ℕ} {after : List ℕ} → after ≡ sets s 0 (reader_bytes f.reader)
-      → w ≡ found_word (answer_number f.answer) (where_number f.lies) f.size f.used
-      → ◌≡◌ {A = LeftByPiece} (record { result = w; reader = after; carry = then }) (host_next s carry piece)
+  -- and is packed
+  pub packs : {w : ℕ} {after : List ℕ} → after ≡ sets s 0 (reader_bytes o.reader) → w ≡ found_word o.answer o.lies o.size o.used
+      → ◌≡◌ {A = LeftByPiece} (record { result = w; reader = after; carry = o.carry }) (host_next s carry piece)
   unfolding host_next
-  hands_on {w} {after} packs word =
-      rw (← tested, not-false is so, packs, word) (ap (left_by s) of_the_bytes)
+  packs {w} {after} pack word = rw ((some_by_test _ held).0, pack, word) (ap (left_by s) of_the_bytes)
+
+pub next_reader : (f : Result Found Refusal) (next : Reader) (then : List ℕ) → (as_outcome f next then).reader ≡ next
+next_reader (Ok f) next then = refl
+next_reader (Err e) next then = refl

@@ -8,10 +8,8 @@ use native.Mathlib.Omega.{arith}
 use borrow.Author.Tests.{eq-eqb}
 use lib.Dec.{eqb, ltb}
 use lib.ListN.{length, take, drop}
-use Rattle.pieces.specs.declared.front.Front.{Front}
-use Rattle.pieces.specs.declared.front.Front.TheVariants.{Unended, Whole, Impossible}
+use Rattle.pieces.specs.Stream.{Front, Unended, Whole, Impossible, front, by_front}
 use Rattle.pieces.specs.declared.reader.Reader.{Reader}
-use Rattle.pieces.specs.Stream.{front, by_front}
 use Rattle.pieces.specs.Next.{Outcome, fresh_reader, stopped_reader, refusal, kept, handed_on, begun, found, next_of, record_in}
 use Rattle.pieces.specs.Runs as runs
 use Rattle.pieces.specs.Runs.{Fed, feed_within, feed, run}

@@ -1,11 +1,12 @@
 -- The rooms of waiting channel questions as a host's 20 bytes: four times what the question waits for u8 (0 a free room, 1 the user, 2 the cancel),
 -- its number u16 and its call u16; little-endian. What the entries return, and what they leave. A result is answer * 2^24 + count.
-use Rattle.std.specs.Prelude.{ℕ, ◌+◌, ◌*◌, Bool, cond, ◌&&◌, List, [], ◌∷◌, ◌++◌, leb, eqb, length, get_or}
+use Rattle.std.specs.Prelude.{ℕ, ◌+◌, ◌*◌, Bool, cond, ◌&&◌, List, [], ◌∷◌, ◌++◌, leb, eqb, length, get_or, Result, Ok, Err}
 use Rattle.std.proofs.Math.Option.{Option, none, some}
 use Rattle.std.proofs.lemmas.List.Edits.{sets}
 use Rattle.records.specs.Bytes.{number, bytes}
 use Rattle.channel.specs.declared.rooms.Wait.{Wait}
 use Rattle.channel.specs.declared.rooms.Room.{Room}
+use Rattle.channel.specs.declared.questions.ChannelRefusal.{ChannelRefusal}
 use Rattle.channel.specs.declared.questions.Answered.{Answered}
 use Rattle.channel.specs.Rooms.{wait_number, fresh_rooms, room_at}
 use Rattle.channel.specs.Questions.{Outcome, channel_number}
@@ -63,7 +64,7 @@ rooms_asked s out call (some rooms) = rooms_left_by s (call rooms)
 unfoldable pub on_rooms : List ℕ → List ℕ → (List Room → Outcome) → RoomsLeft
 on_rooms s out call = rooms_asked s out call (unpacked_rooms s)
 
--- the code's answer as result and bytes
-abbrev pub leaving : List ℕ → Answered → ℕ × List ℕ
-leaving s r =
-    (rooms_word (channel_number r.answer) r.count, cond (eqb (channel_number r.answer) 0) (sets s 0 (packed_rooms r.rooms)) s)
+-- what the code gives back, as result and bytes
+abbrev pub leaving : List ℕ → Result Answered ChannelRefusal → ℕ × List ℕ
+leaving s (Ok r) = (rooms_word 0 r.count, sets s 0 (packed_rooms r.rooms.rooms))
+leaving s (Err e) = (rooms_word (channel_number e) 0, s)

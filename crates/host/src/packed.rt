@@ -1,18 +1,36 @@
-// A call record as a host's 22 bytes, both ways.
-ghost use Rattle.std.specs.Prelude.{◌≡◌, ◌+◌, ◌≤◌, length};
+// A call record as a host's 22 bytes, both ways; and what the entries share: the word of a refusal, and a test of flags.
+ghost use Rattle.std.specs.Prelude.{◌≡◌, Some, None, cond, nat_le, length};
+ghost use Rattle.std.specs.List.{list_all};
 ghost use Rattle.std.proofs.lemmas.List.Edits.{sets};
-ghost use Rattle.records.specs.Bytes.{number};
-ghost use Rattle.host.specs.Packing.{names, settings, running, packed, state_is, path_is, flag, is_record, held};
+ghost use Rattle.host.specs.Entries.{word};
+ghost use Rattle.host.specs.Packing.{packed, state_is, path_is, is_record, held};
 
-use callcontrol::call::{
-    Call, Path, State, T301, T302, T303, T306, T308, T310, T311, path_number, state_number,
-};
+use callcontrol::call::{Call, Path, State};
+use records::fields::{long_at, word_at};
 
 // A result is answer * ANSWER + place * PLACE + count, so that ANSWER alone is answer 1.
 pub const ANSWER: u32 = 16777216;
 
 pub const PLACE: u32 = 65536;
 
+// The bytes of a record, and the greatest number of a state, of a path and of a flag.
+pub const BYTES: usize = 22;
+
+const STATE_MOST: u8 = 5;
+
+const PATH_MOST: u8 = 2;
+
+pub const FLAG_MOST: u8 = 1;
+
+// The result of a refusal by its number, with the place that comes with it.
+pub fn refused(number: u8, place: u8) -> u32
+    ensures { result ≡ word number place 0 }
+{
+    number as u32 * ANSWER + place as u32 * PLACE
+}
+
+// No TryFrom, here and below: `held` gives a call for any 22 bytes, and which bytes are a record is `is_record`'s.
+#[tactic(auto, using(crate::proofs::Packing::last_state))]
 fn state_is(n: u8) -> State
     ensures { result ≡ state_is n }
 {
@@ -27,51 +45,32 @@ fn state_is(n: u8) -> State
 }
 
 // 2 is the last that a record has; what is above it is Up.
+#[tactic(auto, using(crate::proofs::Packing::last_path))]
 fn path_is(n: u8) -> Path
     ensures { result ≡ path_is n }
 {
     match n {
-        0 => Path::Up,
         1 => Path::Broken,
         2 => Path::Restoring,
         _ => Path::Up,
     }
 }
 
-pub fn word_at(s: &[u8], at: usize) -> u16
-    requires { at + 2 ≤ length s.now }
-    ensures { result ≡ number 2 s.now at }
+// Whether each of some bytes is at most a number.
+pub fn all_at_most(s: &[u8], most: u8) -> bool
+    ensures { result ≡ list_all (λ byte. nat_le byte most) s.now }
 {
-    let low = s[at] as u16;
-    let high = s[at + 1] as u16;
-    low + 256 * high
+    s.iter().all(|byte| *byte <= most)
 }
 
-pub fn long_at(s: &[u8], at: usize) -> u32
-    requires { at + 4 ≤ length s.now }
-    ensures { result ≡ number 4 s.now at }
-{
-    let low = word_at(s, at) as u32;
-    let high = word_at(s, at + 2) as u32;
-    low + 65536 * high
-}
-
-// Whether some bytes are a record. One expression: a test that returns early costs a jump each, and almost every record passes all of them.
+// Whether some bytes are a record.
 pub fn is_record(s: &[u8]) -> bool
     ensures { result ≡ is_record s.now }
 {
-    if s.len() != 22 {
+    if s.len() != BYTES || s[0] > STATE_MOST || s[10] > PATH_MOST {
         return false;
     }
-    (s[0] <= 5)
-        & (s[10] <= 2)
-        & (s[14] <= 1)
-        & (s[15] <= 1)
-        & (s[16] <= 1)
-        & (s[17] <= 1)
-        & (s[18] <= 1)
-        & (s[19] <= 1)
-        & (s[20] <= 1)
+    all_at_most(&s[14..21], FLAG_MOST)
 }
 
 // The call that a record's bytes hold.
@@ -79,84 +78,60 @@ pub fn held(s: &[u8]) -> Call
     requires { length s.now ≡ 22 }
     ensures { result ≡ held s.now }
 {
-    let state = state_is(s[0]);
-    let path = path_is(s[10]);
-    let timers = [
-        s[14] == 1,
-        s[15] == 1,
-        s[16] == 1,
-        s[17] == 1,
-        s[18] == 1,
-        s[19] == 1,
-        s[20] == 1,
-    ];
     Call {
-        state,
+        state: state_is(s[0]),
         id: word_at(s, 1),
         address: long_at(s, 3),
         mode: s[7],
         asked: s[8],
         sent: s[9],
-        path,
+        path: path_is(s[10]),
         plane: s[11],
         kept: s[12],
         code: s[13],
         slots: s[21],
-        timers,
+        timers: std::array::from_fn(|i| s[14 + i] == 1),
     }
 }
 
-pub fn flag(b: bool) -> u8
-    ensures { result ≡ flag b }
+// The same, none where the bytes are no record.
+pub fn unpacked(s: &[u8]) -> Option<Call>
+    ensures { result ≡ cond (is_record s.now) (Some (held s.now)) None }
 {
-    if b { 1 } else { 0 }
+    if is_record(s) { Some(held(s)) } else { None }
 }
 
-// Seven bytes each: which call it is, and how it stands; then the timers, and behind them the slots.
-
-fn put_names(call: Call, s: &mut [u8])
-    requires { length s.old ≡ 22 }
-    ensures { s.new ≡ sets s.old 0 (names call) }
+// A call as a record's bytes: which call it is, how it stands, the timers, and the slots.
+fn packed(call: Call) -> [u8; BYTES]
+    ensures { result ≡ packed call }
 {
-    let state = call.state;
-    let id = call.id;
-    let a = call.address;
-    s[0] = state_number(state);
-    s[1] = (id % 256) as u8;
-    s[2] = (id / 256 % 256) as u8;
-    s[3] = (a % 256) as u8;
-    s[4] = (a / 256 % 256) as u8;
-    s[5] = (a / 256 / 256 % 256) as u8;
-    s[6] = (a / 256 / 256 / 256 % 256) as u8;
-}
-
-fn put_settings(call: Call, s: &mut [u8])
-    requires { length s.old ≡ 22 }
-    ensures { s.new ≡ sets s.old 7 (settings call) }
-{
-    let path = call.path;
-    s[7] = call.mode;
-    s[8] = call.asked;
-    s[9] = call.sent;
-    s[10] = path_number(path);
-    s[11] = call.plane;
-    s[12] = call.kept;
-    s[13] = call.code;
-}
-
-fn put_running(call: Call, s: &mut [u8])
-    requires { length s.old ≡ 22 }
-    ensures { s.new ≡ sets s.old 14 (running call) }
-{
-    let t = call.timers;
-    s[14] = flag(t[T301]);
-    s[15] = flag(t[T302]);
-    s[16] = flag(t[T303]);
-    s[17] = flag(t[T306]);
-    s[18] = flag(t[T308]);
-    s[19] = flag(t[T310]);
-    s[20] = flag(t[T311]);
-    s[21] = call.slots;
+    let [i0, i1] = call.id.to_le_bytes();
+    let [a0, a1, a2, a3] = call.address.to_le_bytes();
+    let [t301, t302, t303, t306, t308, t310, t311] = call.timers.map(u8::from);
+    [
+        u8::from(call.state),
+        i0,
+        i1,
+        a0,
+        a1,
+        a2,
+        a3,
+        call.mode,
+        call.asked,
+        call.sent,
+        u8::from(call.path),
+        call.plane,
+        call.kept,
+        call.code,
+        t301,
+        t302,
+        t303,
+        t306,
+        t308,
+        t310,
+        t311,
+        call.slots,
+    ]
 }
 
 // A call into a record's bytes.
@@ -164,7 +139,5 @@ pub fn pack(call: Call, s: &mut [u8])
     requires { length s.old ≡ 22 }
     ensures { s.new ≡ sets s.old 0 (packed call) }
 {
-    put_names(call, s);
-    put_settings(call, s);
-    put_running(call, s);
+    s.copy_from_slice(&packed(call));
 }

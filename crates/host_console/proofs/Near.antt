@@ -16,12 +16,13 @@ use Rattle.records.specs.Tables.{Read, taken, refused, or_refuse, or_place, size
 use Rattle.records.specs.Events.{events}
 use Rattle.callcontrol.specs.declared.call.Call.{Call}
 use Rattle.callcontrol.specs.Step.{Outcome, decided}
-use Rattle.console.specs.declared.route.Route.{Route}
 use Rattle.console.specs.Table.{call_at}
+use Rattle.console.specs.Route.{Route}
 use Rattle.console.specs.Console.{placed, at_place, everywhere}
 use Rattle.console.specs.Runs.{ConsoleTurn, console_outcome}
 use Rattle.console.proofs.Turns.{Everywhere, everywhere_does, none_takes, no_room, all_take, Came, came, unsound, unread, routes}
-use Rattle.host.proofs.Small.{found}
+use Rattle.records.proofs.RoundTrip.{every_found}
+use Rattle.records.proofs.Tables.{event_lawful}
 
 abbrev Within : {A : Type 0} → ℕ → Found A → Type 0
 Within m (is a) = Unit {0}
@@ -80,7 +81,7 @@ reader_near s =
     (sized_near (find events n (length s) events.kinds) _
     (λ k f.
     let row = (events.row_of k).letters in
-    let short : leb (4 + size row) 255 ≡ true = found events (λ k. leb (4 + size (events.row_of k).letters) 255) n (length s) events.kinds k f refl in
+    let short : leb (4 + size row) 255 ≡ true = every_found events event_lawful (λ k. leb (4 + size (events.row_of k).letters) 255) n (length s) events.kinds k f refl in
     let small : 4 + size row ≤ 255 = leb-true (4 + size row) 255 short in
     place_near (cond (eqb (length s) (4 + size row)) (values_at row s 4) (bad_at 2)) _
     (test_within 255 2 (eqb (length s) (4 + size row)) (values_at row s 4) (lit≤ tt) (values_within row s 4 255 (omega arith)))

@@ -100,16 +100,3 @@ module _
 
   pub first_places : packed_first upto calls s ≡ packed_into calls s
   first_places = sym (from_first (8 - upto) 8 (omega arith) (omega arith)) ∙ all_packed calls s
-
--- nothing changes where what is held is packed again
-pub same_table : (s : List ℕ) (small : (i : ℕ) → get_or s i 0 < 256) → is_table s ≡ true → packed_into (held_table s) s ≡ s
-unfolding packed_into
-same_table s small is = all 8 (omega arith)
-  where
-    all : (n : ℕ) → n ≤ 8 → packed_first n (held_table s) s ≡ s
-    all zero le = refl
-    all (suc n) le =
-        let h = table_length s is in
-        ap (λ (z : List ℕ). packed_at (22 * n) (call_at (held_table s) n) z) (all n (omega arith))
-        ∙ ap (λ (d : Call). packed_at (22 * n) d s) (held_at s n (omega arith))
-        ∙ stays s small (22 * n) (omega arith) (part_record s n (omega arith) is)

@@ -1,4 +1,5 @@
 -- A console's table of bytes: its eight parts, read one by one and packed one by one; and what the entry answers, from what its callees give.
+use Rattle.std.specs.Prelude.{Option, Some, None, Err}
 use Prim.Native.Nat.{ℕ, zero, suc, ◌+◌, ◌-◌, ◌*◌, ◌≤◌, ◌<◌}
 use mathlib.Core.Path.{◌≡◌, refl, sym, ◌∙◌, ap}
 use mathlib.Core.Bool.{Bool, true, false, cond, not, ◌&&◌, and-false, true≢false}
@@ -14,18 +15,21 @@ use Rattle.callcontrol.specs.declared.call.Call.{Call}
 use Rattle.records.specs.declared.events.Event.{Event}
 use Rattle.callcontrol.specs.Call.{sound}
 use Rattle.callcontrol.specs.Step.{Outcome}
+use Rattle.console.specs.declared.keys.Keys.{Keys}
 use Rattle.console.specs.Table.{call_at, fresh_table, every?, apart, table_sound}
 use Rattle.console.specs.Keys.{keys_from, apart_by}
+use Rattle.console.specs.declared.route.ConsoleRefusal.{ConsoleRefusal}
+use Rattle.console.specs.Route.{console_number, console_place}
 use Rattle.console.proofs.ByKeys.{apart_by_lem}
+use Rattle.console.proofs.Refused.{refused_some}
 use Rattle.console.proofs.Rooms.{place_few}
-use Rattle.console.specs.Console.{ConsoleOutcome, refuses_at, placed, at_place, console_of}
+use Rattle.console.specs.Console.{ConsoleOutcome, refuses_at, placed, console_of}
 use Rattle.demands.proofs.Facts.{left, right}
 use Rattle.host.specs.Packing.{packed, is_record, held}
 use Rattle.host.proofs.Packing.{packed_length}
 use Rattle.host.specs.Entries.{word}
-use Rattle.host_console.specs.declared.table.TableKeys.{TableKeys}
-use Rattle.host_console.specs.Table.{record_at, is_table, held_table, packed_at, packed_first, packed_into, TableLeft, console_left, console_host_step}
-use Rattle.host_console.specs.Reading.{Where, KeysOf}
+use Rattle.host_console.specs.Table.{record_at, is_table, held_table, packed_at, packed_first, packed_into, TableLeft, as_left, console_left, console_host_step}
+use Rattle.host_console.specs.Reading.{KeysOf}
 
 -- ---- a record into its part of the table
 
@@ -80,9 +84,6 @@ pack_next calls s k {t} {y} p lt is =
       size = ap length part ∙ length-sets t (22 * k) (packed c) ∙ eight;
     }
 
-pub first_packed : (calls : List Call) (s : List ℕ) (k upto : ℕ) {t : List ℕ} → Packing calls s k t → k ≡ upto → t ≡ packed_first upto calls s
-first_packed calls s k upto p all = p.bytes ∙ ap (λ (n : ℕ). packed_first n calls s) all
-
 pub all_packed : (calls : List Call) (s : List ℕ) → packed_first 8 calls s ≡ packed_into calls s
 unfolding packed_into
 all_packed calls s = refl
@@ -93,11 +94,6 @@ all_packed calls s = refl
 abbrev pub held_first : ℕ → List ℕ → List Call
 held_first zero s = fresh_table
 held_first (suc k) s = set (held_first k s) k (held (record_at (22 * k) s))
-
-pub hold_next : (s : List ℕ) (k : ℕ) {calls : List Call} {c : Call} → calls ≡ held_first k s → c ≡ held (part_of k s) → set calls k c ≡ held_first (k + 1) s
-hold_next s k before is =
-    (λ i. set (before i) k (is i)) ∙ ap (λ (z : List ℕ). set (held_first k s) k (held z)) (part_is k s)
-    ∙ sym (ap (λ (n : ℕ). held_first n s) (add-one k))
 
 pub all_held : (s : List ℕ) (k : ℕ) {calls : List Call} → calls ≡ held_first k s → k ≡ 8 → calls ≡ held_table s
 unfolding held_table
@@ -119,6 +115,22 @@ pub part_held : (s : List ℕ) (k : ℕ) {c : Call} → k < 8 → c ≡ held (pa
 part_held s k lt is = is ∙ ap (λ (z : List ℕ). held z) (part_is k s) ∙ sym (held_at s k lt)
 
 -- ---- whether the parts are records
+
+-- a part that is unpacked is a record, and the call is the one that it holds
+module _ (part : List ℕ) (r : Option Call) (is : r ≡ cond (is_record part) (Some (held part)) None) where
+  unpacked_by : (b : Bool) → r ≡ cond b (Some (held part)) None → (c : Call) → r ≡ Some c → (b ≡ true) × (c ≡ held part)
+  unpacked_by true i c some = (refl, cc)
+  unpacked_by false i c some = cc
+
+  pub unpacked_some : (c : Call) → r ≡ Some c → (is_record part ≡ true) × (c ≡ held part)
+  unpacked_some c some = unpacked_by (is_record part) is c some
+
+  none_by : (b : Bool) → r ≡ cond b (Some (held part)) None → r ≡ None → b ≡ false
+  none_by true i none = cc
+  none_by false i none = refl
+
+  pub unpacked_none : r ≡ None → is_record part ≡ false
+  unpacked_none none = none_by (is_record part) is none
 
 -- 176 bytes, and the first parts are records
 abbrev pub first_are : ℕ → List ℕ → Bool
@@ -172,23 +184,19 @@ part_record s k lt all = right (first_are k s) _ (first_below s (suc k) (7 - k) 
 
 -- ---- reading
 
-where_any : (b : Bool) {A : Type 0} → A → Where b A
-where_any true a = a
-where_any false a = tt
-
-pub not_all_bytes : (s ks : List ℕ) → (length s ≡ 176 → ⊥) → KeysOf (record { ok = false; keys = ks }) s
+pub not_all_bytes : (s : List ℕ) → (length s ≡ 176 → ⊥) → KeysOf None s
 unfolding is_table
-not_all_bytes s ks other = record { ok = rw (ne_eqb (length s) 176 other); keys = tt }
+not_all_bytes s other = rw (ne_eqb (length s) 176 other)
 
-pub not_a_record : (s ks : List ℕ) → false ≡ is_table s → KeysOf (record { ok = false; keys = ks }) s
-not_a_record s ks other = record { ok = rw (← other); keys = tt }
+pub not_a_record : (s : List ℕ) → false ≡ is_table s → KeysOf None s
+not_a_record s other = rw (← other)
 
 unsound : (calls : List Call) → every? sound calls ≡ false → table_sound calls ≡ false
 unfolding table_sound
 unsound calls h = rw h (and-false (eqb (length calls) 8))
 
-pub not_sound : (s ks : List ℕ) → every? sound (held_table s) ≡ false → KeysOf (record { ok = false; keys = ks }) s
-not_sound s ks h = record { ok = rw (unsound (held_table s) h) (sym (and-false (is_table s))); keys = tt }
+pub not_sound : (s : List ℕ) → every? sound (held_table s) ≡ false → KeysOf None s
+not_sound s h = rw (unsound (held_table s) h) (and-false (is_table s))
 
 sound_apart : (calls : List Call) → length calls ≡ 8 → every? sound calls ≡ true → table_sound calls ≡ apart calls
 unfolding table_sound
@@ -198,80 +206,53 @@ pub eight_held : (s : List ℕ) → length (held_table s) ≡ 8
 unfolding held_table
 eight_held s = refl
 
-pub all_read : (s ks : List ℕ) {b : Bool} → true ≡ is_table s → every? sound (held_table s) ≡ true → ks ≡ keys_from 0 (held_table s) → b ≡ apart_by ks → KeysOf (record { ok = b; keys = ks }) s
-all_read s ks {b} are h is by =
-    record {
-      ok = rw (← are, sound_apart (held_table s) (eight_held s) h) (by ∙ ap apart_by is ∙ sym (apart_by_lem 0 (held_table s) h));
-      keys = where_any b is;
-    }
+pub all_read : (s ks : List ℕ) {b : Bool} → true ≡ is_table s → every? sound (held_table s) ≡ true → ks ≡ keys_from 0 (held_table s) → b ≡ apart_by ks
+    → (is_table s && table_sound (held_table s)) ≡ b
+all_read s ks are h is by =
+    rw (← are, sound_apart (held_table s) (eight_held s) h) (apart_by_lem 0 (held_table s) h ∙ sym (ap apart_by is) ∙ sym by)
 
 -- what is known where it was read: it is a table, sound, and these are its keys
-both : (a b : Bool) {x : Bool} → x ≡ (a && b) → x ≡ true → (a ≡ true) × (b ≡ true)
-both a b is so = (left a b (sym is ∙ so), right a b (sym is ∙ so))
+module _ (s : List ℕ) (keys : Keys) (k : KeysOf (Some keys) s) where
+  pub known_table : is_table s ≡ true
+  known_table = left (is_table s) (table_sound (held_table s)) k.0
 
-pub record Known (s : List ℕ) (ks : List ℕ) : Type 0 where
-  pub is_table_lem : is_table s ≡ true
-  pub sound : table_sound (held_table s) ≡ true
-  pub keys : ks ≡ keys_from 0 (held_table s)
-
-pub known : (s : List ℕ) {r : TableKeys} → KeysOf r s → not r.ok ≡ false → Known s r.keys
-known s {r} k so =
-    let yes : r.ok ≡ true = not-false r.ok so in
-    let two = both (is_table s) (table_sound (held_table s)) k.ok yes in
-    record { is_table_lem = two.0; sound = two.1; keys = rw yes at k.keys }
+  pub known_sound : table_sound (held_table s) ≡ true
+  known_sound = right (is_table s) (table_sound (held_table s)) k.0
 
 -- ---- the entry
 
 -- bytes that are no sound table
-pub no_table : (s : List ℕ) (place : ℕ) (e b : List ℕ) {r : TableKeys} → KeysOf r s → not r.ok ≡ true
+pub no_table : (s : List ℕ) (place : ℕ) (e b : List ℕ) (r : Option Keys) → KeysOf r s → r ≡ None
     → ◌≡◌ {A = TableLeft} (record { result = 16777216; table = s; out = b }) (console_host_step s place e b)
 unfolding console_host_step console_of
-no_table s place e b {r} k other = by (is_table s) (table_sound (held_table s)) refl refl
+no_table s place e b (Some keys) k none = cc
+no_table s place e b None neither none = by (is_table s) (table_sound (held_table s)) refl refl
   where
-    neither : (is_table s && table_sound (held_table s)) ≡ false
-    neither = sym k.ok ∙ not-true r.ok other
-
     by : (x y : Bool) → is_table s ≡ x → table_sound (held_table s) ≡ y
         → ◌≡◌ {A = TableLeft} (record { result = 16777216; table = s; out = b }) (console_host_step s place e b)
     by false y p q = rw p
     by true false p q = rw (p, q)
     by true true p q = let no : true ≡ false = (λ i. sym p i && sym q i) ∙ neither in absurd (true≢false no)
 
-pub whole : (s : List ℕ) (place : ℕ) (e b : List ℕ) {o : ConsoleOutcome} → is_table s ≡ true → o ≡ console_of (held_table s) place e b → console_left s o ≡ console_host_step s place e b
+pub whole : (s : List ℕ) (place : ℕ) (e b : List ℕ) → is_table s ≡ true → console_left s (console_of (held_table s) place e b) ≡ console_host_step s place e b
 unfolding console_host_step
-whole s place e b is step = rw (is, ← step)
+whole s place e b is = rw is
 
--- what is left by an outcome that the code has by its parts
-module _ (s : List ℕ) {o x : ConsoleOutcome} {n : ℕ} (step : o ≡ x) (number : n ≡ o.answer) where
-  -- a step that is taken is packed
-  pub packs : n ≡ 0 → {after : List ℕ} → after ≡ packed_into o.calls s
-      → ◌≡◌ {A = TableLeft} (record { result = word n o.place o.count; table = after; out = o.buffer }) (console_left s x)
-  packs none {after} pack =
-      let own : ◌≡◌ {A = TableLeft} (record { result = word n o.place o.count; table = after; out = o.buffer }) (console_left s o) =
-      rw (number, pack, eq-eqb o.answer 0 (sym number ∙ none)) in
-      own ∙ ap (console_left s) step
+-- what a step that is taken leaves, where its records are packed
+pub taken_left : (s : List ℕ) {o x : ConsoleOutcome} → o ≡ x → o.answer ≡ 0 → o.place ≡ 0 → {after : List ℕ} → after ≡ packed_into o.calls s
+    → ◌≡◌ {A = TableLeft} (record { result = o.count; table = after; out = o.buffer }) (console_left s x)
+taken_left s {o} step none no_place {after} pack =
+    let n : o.count ≡ word o.answer o.place o.count = omega arith in
+    let t : after ≡ cond (eqb o.answer 0) (packed_into o.calls s) s = rw (eq-eqb o.answer 0 none) pack in
+    (λ i. record { result = n i; table = t i; out = o.buffer }) ∙ ap (console_left s) step
 
-  -- one that is refused leaves the bytes
-  pub leaves : (n ≡ 0 → ⊥) → ◌≡◌ {A = TableLeft} (record { result = word n o.place o.count; table = s; out = o.buffer }) (console_left s x)
-  leaves other =
-      let own : ◌≡◌ {A = TableLeft} (record { result = word n o.place o.count; table = s; out = o.buffer }) (console_left s o) =
-      rw (number, ne_eqb o.answer 0 (λ none. other (number ∙ none))) in
-      own ∙ ap (console_left s) step
-
--- the step of one place, on the record that its part holds
-pub at_place_lem : (s : List ℕ) (k : ℕ) (e : Event) (b : List ℕ) {c : Call} {o : Outcome} → c ≡ call_at (held_table s) k → o ≡ placed k c e b
-    → ◌≡◌ {A = ConsoleOutcome} (record { answer = o.answer; place = o.place; calls = set (held_table s) k o.call; count = o.count; buffer = o.buffer }) (at_place k (held_table s) e b)
-unfolding at_place
-at_place_lem s k e b same step = rw (step, same)
-
--- a refusal of where it goes leaves the bytes, whatever its number
-pub leads_nowhere : (s b : List ℕ) (n p : ℕ) → packed_into (held_table s) s ≡ s
-    → ◌≡◌ {A = TableLeft} (record { result = word n p 0; table = s; out = b }) (console_left s (refuses_at n p (held_table s) b))
-leads_nowhere s b n p same = by (eqb n 0)
-  where
-    by : (z : Bool) → ◌≡◌ {A = TableLeft} (record { result = word n p 0; table = s; out = b }) (record { result = word n p 0; table = cond z (packed_into (held_table s) s) s; out = b })
-    by true = rw same
-    by false = refl
+-- one that is refused leaves the bytes
+pub refused_left : (s b : List ℕ) (a : ConsoleRefusal) (calls : List Call) {x : ConsoleOutcome} → refuses_at (console_number a) (console_place a) calls b ≡ x
+    → as_left (Err a) s b ≡ console_left s x
+refused_left s b a calls step =
+    let some : console_number a ≡ 0 → ⊥ = λ none. omega (arith, refused_some a, none) in
+    let same : as_left (Err a) s b ≡ console_left s (refuses_at (console_number a) (console_place a) calls b) = rw (ne_eqb (console_number a) 0 some) in
+    same ∙ ap (console_left s) step
 
 pub few_written : (k : ℕ) (c : Call) (e : Event) (b : List ℕ) {o : Outcome} → o ≡ placed k c e b → o.count ≤ 127
 few_written k c e b is = rw is (place_few k c e b)

@@ -1,8 +1,10 @@
 -- The console's entries: what each returns, and what it leaves in the lent slices. A table is eight records one after the other.
-use Rattle.std.specs.Prelude.{ℕ, zero, suc, ◌*◌, Bool, cond, ◌&&◌, List, [], ◌∷◌, eqb, length, take, drop}
+use Rattle.std.specs.Prelude.{Result, Ok, Err, ℕ, zero, suc, ◌*◌, Bool, cond, ◌&&◌, List, [], ◌∷◌, eqb, length, take, drop}
 use Rattle.std.proofs.lemmas.List.Edits.{sets}
 use Rattle.callcontrol.specs.declared.call.Call.{Call}
+use Rattle.console.specs.declared.route.ConsoleRefusal.{ConsoleRefusal}
 use Rattle.console.specs.Table.{call_at, fresh_table}
+use Rattle.console.specs.Route.{console_number, console_place}
 use Rattle.console.specs.Console.{ConsoleOutcome, console_of}
 use Rattle.host.specs.Packing.{packed, is_record, held}
 use Rattle.host.specs.Entries.{word}
@@ -56,6 +58,11 @@ abbrev pub console_left : List ℕ → ConsoleOutcome → TableLeft
 console_left s o =
     record
     { result = word o.answer o.place o.count; table = cond (eqb o.answer 0) (packed_into o.calls s) s; out = o.buffer }
+
+-- what the code has of it: how many bytes it wrote, or why it is refused
+abbrev pub as_left : Result ℕ ConsoleRefusal → List ℕ → List ℕ → TableLeft
+as_left (Ok count) table out = record { result = count; table = table; out = out }
+as_left (Err e) table out = record { result = word (console_number e) (console_place e) 0; table = table; out = out }
 
 -- bytes that are no table are answer 1
 unfoldable pub console_host_step : List ℕ → ℕ → List ℕ → List ℕ → TableLeft

@@ -2,51 +2,35 @@
 ghost use Rattle.std.specs.Prelude.{◌≡◌, List, true, ℕ, ◌<◌, ◌≤◌, length};
 ghost use Rattle.console.specs.declared.route.Aim.{Aim};
 ghost use Rattle.console.specs.Route.{aim_of};
-ghost use Rattle.console.specs.Console.{at_place, everywhere};
-ghost use Rattle.host_console.specs.Table.{TableLeft, is_table, held_table, packed_first, console_left, console_freshened, console_host_step};
+ghost use Rattle.console.specs.Console.{at_place, everywhere, console_of};
+ghost use Rattle.host_console.specs.Table.{TableLeft, as_left, is_table, held_table, packed_first, console_left, console_freshened, console_host_step};
 ghost use Rattle.host_console.specs.Reading.{KeysOf};
 
 use callcontrol::call::Call;
-use callcontrol::step::answer_number;
-use console::console::{own_buffer, place_step};
-use console::keys::{apart_by, key_of};
-use console::lent::put_all;
-use console::route::{Led, console_number, lead};
-use host::packed::{ANSWER, PLACE, held, is_record, pack};
+use console::console::{everywhere, place_step};
+use console::keys::{Keys, key_of};
+use console::route::{ConsoleRefusal, Target, lead};
+use host::packed::{ANSWER, held, pack, refused, unpacked};
 use records::events::Event;
 
-// What reading a table gives: whether it is eight sound records, no two alike, and then the key of each place.
-#[derive(Clone, Copy)]
-pub struct TableKeys {
-    pub ok: bool,
-    pub keys: [u16; 8],
-}
-
-// The bytes are gone through once.
-fn table_keys(s: &[u8]) -> TableKeys
+// The keys of a table that is eight sound records, no two alike; the bytes are gone through once.
+fn table_keys(s: &[u8]) -> Option<Keys>
     ensures { KeysOf result s.now }
 {
-    let mut keys = [0; 8];
     if s.len() != 176 {
-        return TableKeys { ok: false, keys };
+        return None;
     }
-    let mut k = 0;
-    while k < 8 {
+    let mut each = [0; 8];
+    for k in 0..8 {
         let at = 22 * k;
-        if !is_record(&s[at..at + 22]) {
-            return TableKeys { ok: false, keys };
-        }
-        let call = held(&s[at..at + 22]);
+        let call = unpacked(&s[at..at + 22])?;
         if !call.sound() {
-            return TableKeys { ok: false, keys };
+            return None;
         }
-        keys[k] = key_of(call, k);
-        k += 1;
+        each[k] = key_of(call, k);
     }
-    TableKeys {
-        ok: apart_by(keys),
-        keys,
-    }
+    let keys = Keys { each };
+    if keys.apart() { Some(keys) } else { None }
 }
 
 // The calls that a table's bytes hold.
@@ -55,11 +39,9 @@ fn held_table(s: &[u8]) -> [Call; 8]
     ensures { result ≡ held_table s.now }
 {
     let mut calls = [Call::fresh(); 8];
-    let mut k = 0;
-    while k < 8 {
+    for k in 0..8 {
         let at = 22 * k;
         calls[k] = held(&s[at..at + 22]);
-        k += 1;
     }
     calls
 }
@@ -69,11 +51,9 @@ fn pack_table(calls: [Call; 8], upto: usize, s: &mut [u8])
     requires { (length s.old ≡ 176) × (upto ≤ 8) }
     ensures { s.new ≡ packed_first upto calls s.old }
 {
-    let mut place = 0;
-    while place < upto {
+    for place in 0..upto {
         let at = 22 * place;
         pack(calls[place], &mut s[at..at + 22]);
-        place += 1;
     }
 }
 
@@ -90,43 +70,45 @@ pub extern "C" fn callcontrol_console_fresh(table: &mut [u8]) -> u32
 }
 
 // An event for one place: its record alone is read and written.
-fn to_place(table: &mut [u8], k: usize, event: Event, out: &mut [u8]) -> u32
+fn to_place(table: &mut [u8], k: usize, event: Event, out: &mut [u8]) -> Result<u32, ConsoleRefusal>
     requires k_bound { k < 8 }
     requires table_value { is_table table.old ≡ true }
-    ensures { ◌≡◌ {A = TableLeft} (record { result = result; table = table.new; out = out.new }) (console_left table.old (at_place k (held_table table.old) event out.old)) }
+    ensures { as_left result table.new out.new ≡ console_left table.old (at_place k (held_table table.old) event out.old) }
 {
     let at = 22 * k;
     let call = held(&table[at..at + 22]);
-    let stepped = place_step(call, k as u8, event, out);
-    let answer = stepped.answer;
-    let next = stepped.call;
-    let own = answer_number(answer) as u32;
-    let result = own * ANSWER + (stepped.place as u32) * PLACE + stepped.count as u32;
-    if own == 0 {
-        pack(next, &mut table[at..at + 22]);
-    }
-    result
+    let stepped = place_step(call, k as u8, event, out)?;
+    pack(stepped.call, &mut table[at..at + 22]);
+    Ok(stepped.count as u32)
 }
 
 // An event for every place: eight records are read and stepped, and written where the event is taken and all messages fit, up to the last that takes it.
-fn to_all(table: &mut [u8], event: Event, out: &mut [u8]) -> u32
+fn to_all(table: &mut [u8], event: Event, out: &mut [u8]) -> Result<u32, ConsoleRefusal>
     requires { (aim_of event ≡ Aim.Every) × (is_table table.old ≡ true) }
-    ensures { ◌≡◌ {A = TableLeft} (record { result = result; table = table.new; out = out.new }) (console_left table.old (everywhere (held_table table.old) event out.old)) }
+    ensures { as_left result table.new out.new ≡ console_left table.old (everywhere (held_table table.old) event out.old) }
 {
-    let mut own = own_buffer();
-    let all = put_all(held_table(table), event, &mut own);
-    if all.upto == 0 {
-        return 6 * ANSWER;
+    let all = everywhere(held_table(table), event, out)?;
+    let calls = all.calls;
+    pack_table(calls, all.upto, table);
+    Ok(all.count as u32)
+}
+
+// An event where its bytes lead, on a table with these keys.
+fn step_of(
+    table: &mut [u8],
+    keys: Keys,
+    place: u8,
+    event: &[u8],
+    out: &mut [u8],
+) -> Result<u32, ConsoleRefusal>
+    requires { KeysOf (Some keys) table.old }
+    ensures { as_left result table.new out.new ≡ console_left table.old (console_of (held_table table.old) place event.now out.old) }
+{
+    let (target, event) = lead(keys, place, event)?;
+    match target {
+        Target::Place(k) => to_place(table, k, event, out),
+        Target::Everywhere => to_all(table, event, out),
     }
-    let size = all.size;
-    if out.len() < size {
-        return 7 * ANSWER;
-    }
-    let room = &mut out[..size];
-    room.copy_from_slice(&own[..size]);
-    let after = all.calls;
-    pack_table(after, all.upto, table);
-    size as u32
 }
 
 // One event for the console: the table goes on and the messages are in out, or nothing is changed.
@@ -139,15 +121,11 @@ pub extern "C" fn callcontrol_console_step(
 ) -> u32
     ensures { ◌≡◌ {A = TableLeft} (record { result = result; table = table.new; out = out.new }) (console_host_step table.old place event.now out.old) }
 {
-    let read = table_keys(table);
-    if !read.ok {
+    let Some(keys) = table_keys(table) else {
         return ANSWER;
-    }
-    let keys = read.keys;
-    match lead(keys, place, event) {
-        Led::To { k, event: e } => to_place(table, k, e, out),
-        Led::Everywhere { event: e } => to_all(table, e, out),
-        Led::Refused { answer, at } => (console_number(answer) as u32) * ANSWER
-            + (at as u32) * PLACE,
+    };
+    match step_of(table, keys, place, event, out) {
+        Ok(count) => count,
+        Err(refusal) => refused(refusal.number(), refusal.place()),
     }
 }

@@ -1,51 +1,53 @@
--- What the entries answer, from what their callees give.
-use Prim.Native.Nat.{ℕ}
-use mathlib.Core.Path.{◌≡◌, sym, ◌∙◌}
-use mathlib.Core.Bool.{Bool, true, false, not, ◌&&◌}
-use mathlib.Core.List.{List}
-use borrow.Author.Tests.{not-true, not-false, eq-eqb, ne_eqb, eqb-true}
-use lib.Dec.{leb, eqb}
-use lib.ListN.{length, get_or}
-use lib.Seq.{sets}
-use Rattle.records.specs.Bodies.{Wrote}
-use Rattle.records.specs.Tables.{Table, taken, read, write}
+-- What a step's entry answers, from what its callees give.
+use Rattle.std.proofs.Common.{ℕ, ◌≡◌, refl, false, List, length}
+use Rattle.std.proofs.Math.Option.{some, none}
+use native.Mathlib.Nat.{zero-add}
+use borrow.Author.Tests.{eqb-true}
+use lib.Dec.{eqb}
+use Rattle.records.specs.declared.bodies.Unreadable.{Unreadable}
+use Rattle.records.proofs.Laws.{by_test}
 use Rattle.direct.specs.declared.call.Call.{Call}
-use Rattle.direct.specs.Step.{Outcome, step_of}
-use Rattle.host_direct.specs.Packing.{packed, is_record, held, unpacked}
-use Rattle.host_direct.specs.Entries.{Left, word, stepped, host_step, wrote_word, copied}
-use Rattle.records.proofs.Laws.{both}
-
--- bytes that are no record
-pub no_record : (s e b : List ℕ) {is : Bool} → is ≡ is_record s → not is ≡ true
-    → ◌≡◌ {A = Left} (record { result = 16777216; call = s; out = b }) (host_step s e b)
-unfolding host_step unpacked
-no_record s e b {is} tested other = rw (← tested, not-true is other)
+use Rattle.direct.specs.declared.step.Refusal.{Refusal}
+use Rattle.direct.specs.Step.{Outcome, refusal_at, refusal_number, refusal_place, step_of}
+use Rattle.host_direct.specs.Packing.{packed, is_record, unpacked}
+use Rattle.host_direct.specs.Entries.{Left, word, stepped, host_step}
+use Rattle.host_direct.proofs.Packing.{written_over}
 
 -- a record has 7 bytes
-pub record_length : (s : List ℕ) {is : Bool} → is ≡ is_record s → not is ≡ false → length s ≡ 7
-unfolding is_record
-record_length s {is} tested so =
-    let all : is_record s ≡ true = sym tested ∙ not-false is so in
-    eqb-true _ _ (both (eqb (length s) 7) _ (both (eqb (length s) 7 && leb (get_or s 0 0) 2) _ (both (eqb (length s) 7 && leb (get_or s 0 0) 2 && leb (get_or s 5 0) 1) _ all).0).0).0
+pub record_length : (s : List ℕ) {c : Call} → some c ≡ unpacked s → length s ≡ 7
+unfolding unpacked is_record
+record_length s {c} holds = by_test (eqb (length s) 7) (eqb-true (length s) 7) (λ other. let none_held : some c ≡ none = rw other at holds in cc)
 
-module _
-    (s e b : List ℕ) {is : Bool} {c : Call} {o : Outcome} {n : ℕ} (tested : is ≡ is_record s) (so : not is ≡ false) (holds : c ≡ held s)
-    (step : o ≡ step_of c e b) (number : n ≡ o.answer) where
-  whole : stepped s o ≡ host_step s e b
-  unfolding host_step unpacked
-  whole = rw (← tested, not-false is so, ← holds, ← step)
+-- no refusal has the number of what is taken
+refusal_nonzero : (r : Refusal) → eqb (refusal_number r) 0 ≡ false
+refusal_nonzero Refusal.NotSound = refl
+refusal_nonzero (Refusal.Unreadable Unreadable.BadLength) = refl
+refusal_nonzero (Refusal.Unreadable Unreadable.UnknownKind) = refl
+refusal_nonzero (Refusal.Unreadable Unreadable.Retired) = refl
+refusal_nonzero (Refusal.Unreadable (Unreadable.BadBody place)) = refl
+refusal_nonzero Refusal.NoRoom = refl
+refusal_nonzero Refusal.BeyondLimits = refl
+refusal_nonzero Refusal.NoRow = refl
+
+module _ (s e b : List ℕ) where
+  -- bytes that are no record
+  pub no_record : none ≡ unpacked s → ◌≡◌ {A = Left} (record { result = 16777216; call = s; out = b }) (host_step s e b)
+  unfolding host_step
+  no_record none_held = rw (← none_held)
+
+  module _ {c : Call} (holds : some c ≡ unpacked s) {o : Outcome} (step : o ≡ step_of c e b) where
+    whole : stepped s o ≡ host_step s e b
+    unfolding host_step
+    whole = rw (← holds, ← step)
 
   -- a step that is taken is packed
-  pub packs : n ≡ 0 → {after : List ℕ} → after ≡ sets s 0 (packed o.call)
-      → ◌≡◌ {A = Left} (record { result = word n o.place o.count; call = after; out = o.buffer }) (host_step s e b)
-  packs zero {after} pack = rw (number, pack) (rw (eq-eqb o.answer 0 (sym number ∙ zero)) at whole)
+  pub packs : {c next : Call} {count : ℕ} {after out : List ℕ} → some c ≡ unpacked s
+      → ◌≡◌ {A = Outcome} (record { answer = 0; place = 0; call = next; count = count; buffer = out }) (step_of c e b)
+      → after ≡ packed next → ◌≡◌ {A = Left} (record { result = count; call = after; out = out }) (host_step s e b)
+  packs {next = next} holds step pack = rw (pack, ← written_over s next (record_length s holds)) (rw zero-add at (whole holds step))
 
   -- one that is refused leaves the bytes
-  pub leaves : (n ≡ 0 → ⊥) → ◌≡◌ {A = Left} (record { result = word n o.place o.count; call = s; out = o.buffer }) (host_step s e b)
-  leaves other = rw number (rw (ne_eqb o.answer 0 (λ zero. other (number ∙ zero))) at whole)
-
--- a value that is read is written
-pub copies : (t : Table) (s out : List ℕ) {after : List ℕ} {v : t.Value} {w : Wrote} {r : ℕ} → taken v ≡ read t s → (w, after) ≡ write t v out
-    → r ≡ wrote_word w → (r, after) ≡ copied t s out
-unfolding copied
-copies t s out reads writes answers = rw (← reads, ← writes, answers)
+  pub leaves : {c : Call} (r : Refusal) {n p result : ℕ} {out : List ℕ} → some c ≡ unpacked s
+      → refusal_at (refusal_number r) (refusal_place r) c out ≡ step_of c e b
+      → n ≡ refusal_number r → p ≡ refusal_place r → result ≡ word n p 0 → ◌≡◌ {A = Left} (record { result = result; call = s; out = out }) (host_step s e b)
+  leaves r holds step number place said = rw (said, number, place) (rw (refusal_nonzero r) at (whole holds step))

@@ -1,18 +1,24 @@
 -- What is packed is unpacked as the same record, and what is unpacked is packed as the same bytes.
 use Prim.Native.Nat.{ℕ, zero, suc, ◌+◌, ◌≤◌}
 use mathlib.Core.Path.{◌≡◌, refl, sym}
-use mathlib.Core.Bool.{Bool, true, false, ◌&&◌}
+use mathlib.Core.Bool.{Bool, true, false, ◌&&◌, and-false}
 use mathlib.Core.List.{List, [], ◌∷◌}
 use native.Mathlib.Omega.{arith}
-use borrow.Author.Tests.{leb-true, eqb-true}
+use borrow.Author.Tests.{leb-true, eqb-true, eq-eqb, ne_eqb, lt-leb}
 use lib.Dec.{leb, eqb}
 use lib.ListN.{length, get_or, drop, drop_of_length-le}
-use lib.Seq.{drop-cons}
+use lib.Seq.{drop-cons, sets}
+use Rattle.std.proofs.Common.{◌∙◌, append-nil}
+use Rattle.std.proofs.lemmas.List.Edits.{sets-eq}
 use Rattle.records.proofs.Laws.{both}
 use Rattle.direct.specs.declared.call.State.{State}
 use Rattle.direct.specs.declared.call.Call.{Call}
-use Rattle.direct.specs.Call.{state_number}
-use Rattle.host_direct.specs.Packing.{packed, state_is, flag, is_record, held, unpacked}
+use Rattle.std.proofs.Common.{Result, Ok, Err, Some, None}
+use Rattle.std.proofs.Math.Option.{some, none}
+use Rattle.std.specs.Result.{result_ok}
+use Rattle.direct.specs.declared.call.UnknownState.{UnknownState}
+use Rattle.direct.specs.Call.{state_number, StateOf}
+use Rattle.host_direct.specs.Packing.{packed, state_is, flag, is_record, held, unpacked, as_flag}
 use Rattle.host_direct.specs.Laws.{PackedIsUnpacked, HeldIsPacked}
 
 -- n elements of a list from a position on, one by one
@@ -58,6 +64,13 @@ pub packed_length : (c : Call) → length (packed c) ≡ 7
 unfolding packed
 packed_length c = refl
 
+-- all seven bytes are written over
+pub written_over : (s : List ℕ) (c : Call) → length s ≡ 7 → sets s 0 (packed c) ≡ packed c
+written_over s c seven =
+    let room : 0 + length (packed c) ≤ length s = rw (packed_length, seven) (omega arith) in
+    let rest : drop (0 + length (packed c)) s ≡ [] = drop_of_length-le s {i = 0 + length (packed c)} (rw (packed_length, seven) (omega arith)) in
+    sets-eq (packed c) s 0 room ∙ rw (rest, append-nil)
+
 is_record_lem : (c : Call) → is_record (packed c) ≡ true
 unfolding is_record packed
 is_record_lem c = simp (state_small, flag_small)
@@ -74,3 +87,46 @@ held_is_packed s ok =
     let p₃ : (eqb (length s) 7 ≡ true) × (leb (get_or s 0 0) 2 ≡ true) = both _ _ p₂.0 in
     rw (state_back (get_or s 0 0) (leb-true _ _ p₃.1), flag_back (get_or s 5 0) (leb-true _ _ p₂.1), flag_back (get_or s 6 0) (leb-true _ _ p₁.1))
     (items_drop 7 0 s 0 (eqb-true _ _ p₃.0))
+
+-- ---- as the code unpacks
+
+-- a byte that is a state's number, and one that is none's
+pub is_state : (n : ℕ) (r : Result State UnknownState) → StateOf n r → {s : State} → Some s ≡ result_ok r → (state_is n ≡ s) × (leb n 2 ≡ true)
+is_state n (Ok t) h {s} e = let same : s ≡ t = cc in (rw (same, ← h) (state_there t), rw (← h) (state_small t))
+is_state n (Err u) h e = cc
+
+pub no_state : (n : ℕ) (r : Result State UnknownState) → StateOf n r → None ≡ result_ok r → leb n 2 ≡ false
+no_state n (Ok t) h e = cc
+no_state n (Err u) h e = lt-leb n 2 h.1
+
+-- a byte that is a flag, and one that is none
+pub is_flag : (n : ℕ) {b : Bool} → Some b ≡ as_flag n → (eqb n 1 ≡ b) × (leb n 1 ≡ true)
+is_flag zero e = (cc, refl)
+is_flag (suc zero) e = (cc, refl)
+is_flag (suc (suc n)) e = cc
+
+pub no_flag : (n : ℕ) → None ≡ as_flag n → leb n 1 ≡ false
+no_flag zero e = cc
+no_flag (suc zero) e = cc
+no_flag (suc (suc n)) e = lt-leb (suc (suc n)) 1 (omega arith)
+
+module _ (s : List ℕ) where
+  pub of_other_length : (length s ≡ 7 → ⊥) → none ≡ unpacked s
+  unfolding unpacked is_record
+  of_other_length h = rw (ne_eqb _ _ h)
+
+  pub of_no_state : leb (get_or s 0 0) 2 ≡ false → none ≡ unpacked s
+  unfolding unpacked is_record
+  of_no_state h = simp (h, and-false)
+
+  pub of_no_dt303 : leb (get_or s 5 0) 1 ≡ false → none ≡ unpacked s
+  unfolding unpacked is_record
+  of_no_dt303 h = simp (h, and-false)
+
+  pub of_no_dt311 : leb (get_or s 6 0) 1 ≡ false → none ≡ unpacked s
+  unfolding unpacked is_record
+  of_no_dt311 h = simp (h, and-false)
+
+  pub of_record : length s ≡ 7 → {st : State} {d f : Bool} → (state_is (get_or s 0 0) ≡ st) × (leb (get_or s 0 0) 2 ≡ true) → (eqb (get_or s 5 0) 1 ≡ d) × (leb (get_or s 5 0) 1 ≡ true) → (eqb (get_or s 6 0) 1 ≡ f) × (leb (get_or s 6 0) 1 ≡ true) → some (record { state = st; target = get_or s 1 0; lowest = get_or s 2 0; limit = get_or s 3 0; used = get_or s 4 0; dt303 = d; dt311 = f }) ≡ unpacked s
+  unfolding unpacked is_record held
+  of_record seven state dt303 dt311 = rw (eq-eqb _ _ seven, state.1, dt303.1, dt311.1, state.0, dt303.0, dt311.0)

@@ -1,15 +1,17 @@
 -- Every count is small, so that a result is a u32.
-use Prim.Native.Nat.{ℕ, ◌≤◌, ◌<◌, ◌^◌}
+use Prim.Native.Nat.{ℕ, ◌≤◌}
 use mathlib.Core.Path.{◌≡◌, ap}
 use mathlib.Core.Bool.{Bool, true, false, cond}
 use mathlib.Core.List.{List}
 use native.Mathlib.Omega.{arith}
+use borrow.Author.Tests.{leb-true}
 use lib.Dec.{leb}
 use lib.ListN.{length}
 use lib.Seq.{sets}
-use Rattle.records.specs.Bodies.{Wrote, wrote, not_written, flat_size, flat_bytes, written}
-use Rattle.records.specs.Tables.{Table, flat, fine, write}
-use Rattle.records.proofs.Laws.{length-flat_bytes}
+use Rattle.records.specs.Bodies.{Wrote, wrote, not_written, flat_size, written}
+use Rattle.records.specs.Tables.{flat}
+use Rattle.records.specs.Records.{short}
+use Rattle.records.proofs.Laws.{both}
 use Rattle.direct.specs.declared.events.Event.{Event}
 use Rattle.direct.specs.declared.messages.Message.{Message}
 use Rattle.direct.specs.declared.call.Call.{Call}
@@ -18,7 +20,6 @@ use Rattle.direct.specs.Messages.{messages}
 use Rattle.direct.specs.Step.{Outcome, step_of}
 use Rattle.direct.specs.Runs.{outcome}
 use Rattle.direct.proofs.Demands.{at_most_27}
-use Rattle.host_direct.specs.Entries.{wrote_word}
 
 -- a step writes at most 27 bytes
 pub step_small : (c : Call) (e b : List ℕ) {o : Outcome} → o ≡ step_of c e b → o.count ≤ 27
@@ -45,14 +46,12 @@ message_small (Message.Configure grade) = omega arith
 message_small (Message.SetupConfirm grade) = omega arith
 message_small Message.ReleaseIndication = omega arith
 
--- so a writer's answer is one
-small : (a b : Bool) (n : ℕ) (x y z : List ℕ) → n ≤ 7 → wrote_word (cond {A = Wrote × List ℕ} a (cond b (wrote n, x) (not_written 7, y)) (not_written 4, z)).0 < 2 ^ 32
-small true true n x y z h = omega arith
-small true false n x y z h = omega arith
-small false b n x y z h = omega arith
-
-pub written_small : (t : Table) → ((v : t.Value) → flat_size (flat t v) ≤ 7) → (v : t.Value) (out : List ℕ) {w : Wrote} {after : List ℕ} → (w, after) ≡ write t v out → wrote_word w < 2 ^ 32
-unfolding write written
-written_small t few v out {w} {after} e =
-    let same : wrote_word w ≡ wrote_word (write t v out).0 = ap (λ (p : Wrote × List ℕ). wrote_word p.0) e in
-    rw same (small (fine t v) (leb (length (flat_bytes (flat t v))) (length out)) (length (flat_bytes (flat t v))) (sets out 0 (flat_bytes (flat t v))) out out (rw length-flat_bytes (few v)))
+-- and what is written of a short record at most 64
+pub count_small : (ok : Bool) (out b : List ℕ) {n : ℕ} {after : List ℕ} → short out ≡ true → ◌≡◌ {A = Wrote × List ℕ} (wrote n, after) (written ok out b) → n ≤ 64
+unfolding written
+count_small ok out b {n} few e = by ok (leb (length out) (length b)) (ap (λ (p : Wrote × List ℕ). p.0) e)
+  where
+    by : (a c : Bool) → wrote n ≡ (cond {A = Wrote × List ℕ} a (cond c (wrote (length out), sets b 0 out) (not_written 7, b)) (not_written 4, b)).0 → n ≤ 64
+    by true true same = let all : n ≡ length out = cc in rw all (leb-true _ _ (both _ _ few).1)
+    by true false same = cc
+    by false c same = cc

@@ -64,9 +64,13 @@ abbrev pub wrote_word : Wrote → ℕ
 wrote_word (wrote n) = word 0 0 n
 wrote_word (not_written n) = word n 0 0
 
+-- what was read is written by a table's writer
+abbrev pub copied_by : {A : Type 0} → (A → List ℕ → Wrote × List ℕ) → Read A → List ℕ → ℕ × List ℕ
+copied_by writer (taken v) out = (wrote_word (writer v out).0, (writer v out).1)
+copied_by writer (refused n place) out = (word n place 0, out)
+
 abbrev pub write_read : (t : Table) → Read t.Value → List ℕ → ℕ × List ℕ
-write_read t (taken v) out = (wrote_word (write t v out).0, (write t v out).1)
-write_read t (refused n place) out = (word n place 0, out)
+write_read t r out = copied_by (write t) r out
 
 -- a record read, then written back
 unfoldable pub copied : Table → List ℕ → List ℕ → ℕ × List ℕ

@@ -1,5 +1,5 @@
 -- A direct mode call as a host's 7 bytes: state, target, lowest, limit, used, DT303 and DT311.
-use Rattle.std.specs.Prelude.{ℕ, zero, suc, Bool, cond, ◌&&◌, List, [], ◌∷◌, leb, eqb, length, get_or}
+use Rattle.std.specs.Prelude.{ℕ, zero, suc, Bool, true, false, cond, ◌&&◌, List, [], ◌∷◌, leb, eqb, length, get_or, Option as Maybe, Some, None}
 use Rattle.std.proofs.Math.Option.{Option, none, some}
 use Rattle.direct.specs.declared.call.State.{State}
 use Rattle.direct.specs.declared.call.Call.{Call}
@@ -36,3 +36,14 @@ held s =
 
 unfoldable pub unpacked : List ℕ → Option Call
 unpacked s = cond (is_record s) (some (held s)) none
+
+-- the code's answers
+
+abbrev pub as_call : Maybe Call → Option Call
+as_call (Some c) = some c
+as_call None = none
+
+abbrev pub as_flag : ℕ → Maybe Bool
+as_flag zero = Some false
+as_flag (suc zero) = Some true
+as_flag (suc (suc n)) = None

@@ -3,54 +3,56 @@
 #![tactic(auto)]
 
 ghost use Rattle.std.specs.Prelude.{◌≡◌, List, ℕ, ◌<◌, ◌^◌};
-ghost use Rattle.records.specs.Bodies.{as_wrote};
-ghost use Rattle.direct.specs.Events.{events, as_event_read};
-ghost use Rattle.direct.specs.Messages.{messages, as_message_read};
-ghost use Rattle.host_direct.specs.Entries.{Left, freshened, host_step, read_word, wrote_word, checked, copied};
+ghost use Rattle.direct.specs.Events.{events};
+ghost use Rattle.direct.specs.Messages.{messages};
+ghost use Rattle.host_direct.specs.Entries.{Left, word, freshened, host_step, read_word, checked, copied_by, copied};
 
 mod packed;
 
-use crate::packed::{ANSWER, PLACE, held, is_record, pack};
+use crate::packed::{pack, unpack};
 use direct::call::Call;
-use direct::events::{EventRead, read_event, write_event};
-use direct::messages::{MessageRead, read_message, write_message};
-use direct::step::{answer_number, step};
-use records::bodies::Written;
+use direct::events::Event;
+use direct::messages::Message;
+use direct::step::step;
+use records::record::{Record, read, write};
 
-fn event_word(read: EventRead) -> u32
-    ensures { result ≡ read_word (as_event_read read) }
+// A result is answer * ANSWER + place * PLACE + count, so that ANSWER alone is answer 1.
+const ANSWER: u32 = 16777216;
+
+const PLACE: u32 = 65536;
+
+// A refusal's number and place as a result.
+fn refused(number: u8, place: u8) -> u32
+    ensures { result ≡ word number place 0 }
 {
-    match read {
-        EventRead::Is(_) => 0,
-        EventRead::BadLength => 2 * ANSWER,
-        EventRead::UnknownKind => 3 * ANSWER,
-        EventRead::BadBody(place) => 4 * ANSWER + (place as u32) * PLACE,
+    number as u32 * ANSWER + place as u32 * PLACE
+}
+
+// What reading some bytes answers.
+fn check<R: Record>(bytes: &[u8]) -> u32
+    ensures { result ≡ read_word (R.read_of bytes.now) }
+{
+    match read::<R>(bytes) {
+        Ok(_) => 0,
+        Err(unreadable) => refused(unreadable.number(), unreadable.place()),
     }
 }
 
-fn message_word(read: MessageRead) -> u32
-    ensures { result ≡ read_word (as_message_read read) }
+// A record read, and written back into out.
+fn copy<R: Record>(bytes: &[u8], out: &mut [u8]) -> u32
+    ensures { ◌≡◌ {A = ℕ × List ℕ} (result, out.new) (copied_by R.write_of (R.read_of bytes.now) out.old) }
 {
-    match read {
-        MessageRead::Is(_) => 0,
-        MessageRead::BadLength => 2 * ANSWER,
-        MessageRead::UnknownKind => 3 * ANSWER,
-        MessageRead::BadBody(place) => 4 * ANSWER + (place as u32) * PLACE,
-    }
-}
-
-fn written_word(written: Written) -> u32
-    requires { wrote_word (as_wrote written) < 2 ^ 32 }
-    ensures { result ≡ wrote_word (as_wrote written) }
-{
-    match written {
-        Written::Count(n) => n as u32,
-        Written::BadField => 4 * ANSWER,
-        Written::NoRoom => 7 * ANSWER,
+    match read::<R>(bytes) {
+        Ok(record) => match write(record, out) {
+            Ok(count) => count as u32,
+            Err(unwritable) => refused(unwritable.number(), 0),
+        },
+        Err(unreadable) => refused(unreadable.number(), unreadable.place()),
     }
 }
 
 // Writes the fresh record; answer 1 where it has not 7 bytes.
+#[tactic(auto, using(crate::proofs::Packing::written_over), unfolding(crate::specs::Entries::freshened))]
 #[unsafe(no_mangle)]
 pub extern "C" fn callcontrol_direct_fresh(call: &mut [u8]) -> u32
     ensures { ◌≡◌ {A = ℕ × List ℕ} (result, call.new) (freshened call.old) }
@@ -58,7 +60,7 @@ pub extern "C" fn callcontrol_direct_fresh(call: &mut [u8]) -> u32
     if call.len() != 7 {
         return ANSWER;
     }
-    pack(Call::fresh(), call);
+    call.copy_from_slice(&pack(Call::fresh()));
     7
 }
 
@@ -67,56 +69,50 @@ pub extern "C" fn callcontrol_direct_fresh(call: &mut [u8]) -> u32
 pub extern "C" fn callcontrol_direct_step(call: &mut [u8], event: &[u8], out: &mut [u8]) -> u32
     ensures { ◌≡◌ {A = Left} (record { result = result; call = call.new; out = out.new }) (host_step call.old event.now out.old) }
 {
-    if !is_record(call) {
+    let Some(before) = unpack(call) else {
         return ANSWER;
+    };
+    match step(before, event, out) {
+        Ok(stepped) => {
+            call.copy_from_slice(&pack(stepped.call));
+            stepped.count as u32
+        }
+        Err(refusal) => refused(refusal.number(), refusal.place()),
     }
-    let stepped = step(held(call), event, out);
-    let answer = stepped.answer;
-    let next = stepped.call;
-    let number = answer_number(answer) as u32;
-    let result = number * ANSWER + (stepped.place as u32) * PLACE + stepped.count as u32;
-    if number == 0 {
-        pack(next, call);
-    }
-    result
 }
 
 // What reading an event answers.
+#[tactic(auto, unfolding(crate::specs::Entries::checked))]
 #[unsafe(no_mangle)]
 pub extern "C" fn callcontrol_direct_check_event(bytes: &[u8]) -> u32
     ensures { result ≡ checked events bytes.now }
 {
-    event_word(read_event(bytes))
+    check::<Event>(bytes)
 }
 
 // What reading a message answers.
+#[tactic(auto, unfolding(crate::specs::Entries::checked))]
 #[unsafe(no_mangle)]
 pub extern "C" fn callcontrol_direct_check_message(bytes: &[u8]) -> u32
     ensures { result ≡ checked messages bytes.now }
 {
-    message_word(read_message(bytes))
+    check::<Message>(bytes)
 }
 
 // An event read, and written back into out.
+#[tactic(auto, unfolding(crate::specs::Entries::copied))]
 #[unsafe(no_mangle)]
 pub extern "C" fn callcontrol_direct_copy_event(bytes: &[u8], out: &mut [u8]) -> u32
     ensures { ◌≡◌ {A = ℕ × List ℕ} (result, out.new) (copied events bytes.now out.old) }
 {
-    let read = read_event(bytes);
-    let EventRead::Is(event) = read else {
-        return event_word(read);
-    };
-    written_word(write_event(event, out))
+    copy::<Event>(bytes, out)
 }
 
 // A message read, and written back into out.
+#[tactic(auto, unfolding(crate::specs::Entries::copied))]
 #[unsafe(no_mangle)]
 pub extern "C" fn callcontrol_direct_copy_message(bytes: &[u8], out: &mut [u8]) -> u32
     ensures { ◌≡◌ {A = ℕ × List ℕ} (result, out.new) (copied messages bytes.now out.old) }
 {
-    let read = read_message(bytes);
-    let MessageRead::Is(message) = read else {
-        return message_word(read);
-    };
-    written_word(write_message(message, out))
+    copy::<Message>(bytes, out)
 }

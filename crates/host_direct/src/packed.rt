@@ -1,76 +1,50 @@
 // A direct mode call as a host's 7 bytes, both ways.
-ghost use Rattle.std.specs.Prelude.{◌≡◌, length};
-ghost use Rattle.std.proofs.lemmas.List.Edits.{sets};
-ghost use Rattle.host_direct.specs.Packing.{packed, state_is, flag, is_record, held};
+ghost use Rattle.std.specs.Prelude.{◌≡◌};
+ghost use Rattle.host_direct.specs.Packing.{packed, unpacked, as_call, as_flag};
 
-use direct::call::{Call, State, state_number};
+use direct::call::{Call, State};
 
-// A result is answer * ANSWER + place * PLACE + count, so that ANSWER alone is answer 1.
-pub const ANSWER: u32 = 16777216;
-
-pub const PLACE: u32 = 65536;
-
-// 2 is the last that a record has.
-fn state_is(n: u8) -> State
-    ensures { result ≡ state_is n }
+// A byte that is a flag.
+fn flag_of(byte: u8) -> Option<bool>
+    ensures { result ≡ as_flag byte }
 {
-    match n {
-        0 => State::Idle,
-        1 => State::PresenceCheck,
-        _ => State::Active,
+    match byte {
+        0 => Some(false),
+        1 => Some(true),
+        _ => None,
     }
 }
 
-fn flag(b: bool) -> u8
-    ensures { result ≡ flag b }
+// The call that some bytes hold; none where they are no record.
+pub fn unpack(bytes: &[u8]) -> Option<Call>
+    ensures { as_call result ≡ unpacked bytes.now }
 {
-    if b { 1 } else { 0 }
-}
-
-// Whether some bytes are a record.
-pub fn is_record(s: &[u8]) -> bool
-    ensures { result ≡ is_record s.now }
-{
-    if s.len() != 7 {
-        return false;
-    }
-    if s[0] > 2 {
-        return false;
-    }
-    if s[5] > 1 {
-        return false;
-    }
-    s[6] <= 1
-}
-
-// The call that a record's bytes hold.
-pub fn held(s: &[u8]) -> Call
-    requires { length s.now ≡ 7 }
-    ensures { result ≡ held s.now }
-{
-    let state = state_is(s[0]);
-    Call {
-        state,
-        target: s[1],
-        lowest: s[2],
-        limit: s[3],
-        used: s[4],
-        dt303: s[5] == 1,
-        dt311: s[6] == 1,
-    }
+    let &[state, target, lowest, limit, used, dt303, dt311] = bytes else {
+        return None;
+    };
+    Some(Call {
+        state: State::try_from(state).ok()?,
+        target,
+        lowest,
+        limit,
+        used,
+        dt303: flag_of(dt303)?,
+        dt311: flag_of(dt311)?,
+    })
 }
 
 // The bytes of a call.
-pub fn pack(call: Call, out: &mut [u8])
-    requires { length out.old ≡ 7 }
-    ensures { out.new ≡ sets out.old 0 (packed call) }
+#[tactic(auto, unfolding(crate::specs::Packing::packed))]
+pub fn pack(call: Call) -> [u8; 7]
+    ensures { result ≡ packed call }
 {
-    let state = call.state;
-    out[0] = state_number(state);
-    out[1] = call.target;
-    out[2] = call.lowest;
-    out[3] = call.limit;
-    out[4] = call.used;
-    out[5] = flag(call.dt303);
-    out[6] = flag(call.dt311);
+    [
+        call.state as u8,
+        call.target,
+        call.lowest,
+        call.limit,
+        call.used,
+        call.dt303 as u8,
+        call.dt311 as u8,
+    ]
 }

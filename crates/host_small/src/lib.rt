@@ -5,9 +5,7 @@
 ghost use Rattle.std.specs.Prelude.{◌≡◌, List, ℕ};
 ghost use Rattle.host.specs.Entries.{Left, freshened, host_step};
 
-use callcontrol::call::Call;
-use callcontrol::step::{Answer, answer_number};
-use host::packed::{ANSWER, PLACE, held, is_record, pack};
+use host::packed::{ANSWER, pack, refused, unpacked};
 use small::small_step;
 
 // Writes the fresh record; answer 1 where it has not 22 bytes.
@@ -15,29 +13,23 @@ use small::small_step;
 pub extern "C" fn callcontrol_fresh(call: &mut [u8]) -> u32
     ensures { ◌≡◌ {A = ℕ × List ℕ} (result, call.new) (freshened call.old) }
 {
-    if call.len() != 22 {
-        return ANSWER;
-    }
-    pack(Call::fresh(), call);
-    22
+    host::callcontrol_fresh(call)
 }
 
-// One step: the record goes on and the messages are in out, or nothing is changed.
+// One step: the record goes on and the messages are in out, or nothing is changed. It is host's with the other engine, written once more since
+// the edit refusal_without_its_answer tries this text.
 #[unsafe(no_mangle)]
 pub extern "C" fn callcontrol_step(call: &mut [u8], event: &[u8], out: &mut [u8]) -> u32
     ensures { ◌≡◌ {A = Left} (record { result = result; call = call.new; out = out.new }) (host_step call.old event.now out.old) }
 {
-    if !is_record(call) {
+    let Some(before) = unpacked(call) else {
         return ANSWER;
-    }
-    let stepped = small_step(held(call), event, out);
-    let answer = stepped.answer;
-    let next = stepped.call;
-    let Answer::Taken = answer else {
-        return answer_number(answer) as u32 * ANSWER
-            + (stepped.place as u32) * PLACE
-            + stepped.count as u32;
     };
-    pack(next, call);
-    (stepped.place as u32) * PLACE + stepped.count as u32
+    match small_step(before, event, out) {
+        Ok(stepped) => {
+            pack(stepped.call, call);
+            stepped.count as u32
+        }
+        Err(refusal) => refused(refusal.number(), refusal.place()),
+    }
 }

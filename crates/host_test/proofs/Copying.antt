@@ -1,16 +1,17 @@
 -- A record is no longer than its size says, and a copy of it stands at the front of the buffer.
 use Prim.Native.Nat.{ℕ, zero, suc, ◌+◌, ◌*◌, ◌≤◌, ◌<◌}
-use mathlib.Core.Path.{◌≡◌, sym, ◌∙◌, ap}
+use mathlib.Core.Path.{◌≡◌, refl, sym, ◌∙◌, ap}
 use mathlib.Core.Bool.{Bool, true, false, cond}
 use mathlib.Core.List.{List, [], ◌∷◌, ◌++◌}
 use native.Mathlib.Omega.{arith}
 use borrow.Author.Tests.{lt-ltb, le-ltb}
+use Rattle.std.specs.Prelude.{Option}
 use lib.Dec.{eqb}
 use lib.ListN.{length, take, drop}
 use lib.Seq.{sets, sets-eq}
 use Rattle.pieces.specs.declared.reader.Where.{Where}
-use Rattle.pieces.specs.Next.{where_number, record_in}
-use Rattle.host_test.specs.Record.{ANSWER, where_is, copied, record_copied}
+use Rattle.pieces.specs.Next.{where_number, size_handed, record_in}
+use Rattle.host_test.specs.Record.{ANSWER, handed, copied, record_copied}
 
 length_taken : (n : ℕ) (l : List ℕ) → length (take n l) ≤ n
 length_taken zero l = omega arith
@@ -34,14 +35,27 @@ fits r out {after} le all =
     let stored : sets out 0 r ≡ r ++ drop (length r) out = sets-eq r out 0 (omega arith) ∙ ap (λ (n : ℕ). take 0 out ++ r ++ drop n out) zero_more in
     rw (le-ltb (length out) (length r) le) (ap (λ (z : List ℕ). (length r, z)) (all ∙ sym stored))
 
--- as the code has them: where it lies by its number, the record as the part that was given back
-module _ (lies size : ℕ) (carry piece out : List ℕ) {p : Where} {r : List ℕ} (is : p ≡ where_is lies) (held : r ≡ record_in (where_number p) size carry piece) where
+-- its size is the one asked for, where there is a record
+sized : (lies size : ℕ) (carry piece : List ℕ)
+    → record_in (where_number (handed lies size)) (size_handed (handed lies size)) carry piece ≡ record_in (where_number (handed lies size)) size carry piece
+sized zero size carry piece = refl
+sized (suc zero) size carry piece = refl
+sized (suc (suc zero)) size carry piece = refl
+sized (suc (suc (suc n))) size carry piece = refl
+
+-- as the code has them: where it lies and its size, and the record as the part that was given back
+module _
+    (lies size : ℕ) (carry piece out : List ℕ) {p : Option Where} {r : List ℕ} (is : p ≡ handed lies size)
+    (held : r ≡ record_in (where_number p) (size_handed p) carry piece) where
+  record_is : r ≡ record_in (where_number (handed lies size)) size carry piece
+  record_is = held ∙ ap (λ (q : Option Where). record_in (where_number q) (size_handed q) carry piece) is ∙ sized lies size carry piece
+
   whole : copied r out ≡ record_copied lies size carry piece out
   unfolding record_copied
-  whole = ap (λ (z : List ℕ). copied z out) (held ∙ ap (λ (q : Where). record_in (where_number q) size carry piece) is)
+  whole = ap (λ (z : List ℕ). copied z out) record_is
 
   pub few : length r ≤ size
-  few = rw held (record_size (where_number p) size carry piece)
+  few = rw record_is (record_size (where_number (handed lies size)) size carry piece)
 
   pub no_room : length out < length r → (7 * ANSWER, out) ≡ record_copied lies size carry piece out
   no_room lt = too_short r out lt ∙ whole

@@ -2,22 +2,21 @@
 #![tactic(auto)]
 
 ghost use Rattle.std.specs.Prelude.{◌≡◌, List, ℕ};
-ghost use Rattle.host_test.specs.Record.{where_is, record_copied};
+ghost use Rattle.host_test.specs.Record.{handed, record_copied};
 
-use pieces::reader::{Answer, Found, Reader, Where, record_in};
+use pieces::reader::{Where, record_in};
 
 // A result is answer * ANSWER + count, as host's are.
 const ANSWER: u32 = 16777216;
 
-// Where a record is, by its number; what is above 2 is nowhere.
-fn where_is(n: u8) -> Where
-    ensures { result ≡ where_is n }
+// A record of this size where this number says; above 2 there is none, as at 0.
+fn handed(lies: u8, size: u8) -> Option<Where>
+    ensures { result ≡ handed lies size }
 {
-    match n {
-        0 => Where::Nowhere,
-        1 => Where::Carry,
-        2 => Where::Piece,
-        _ => Where::Nowhere,
+    match lies {
+        1 => Some(Where::Carry(size as usize)),
+        2 => Some(Where::Piece(size as usize)),
+        _ => None,
     }
 }
 
@@ -32,19 +31,11 @@ pub extern "C" fn callcontrol_test_record_in<'a>(
 ) -> u32
     ensures { ◌≡◌ {A = ℕ × List ℕ} (result, out.new) (record_copied lies size carry.now piece.now out.old) }
 {
-    let found = Found {
-        answer: Answer::Taken,
-        lies: where_is(lies),
-        size: size as usize,
-        used: 0,
-        reader: Reader::fresh(),
-    };
-    let record = record_in(found, carry, piece);
+    let record = record_in(handed(lies, size), carry, piece);
     let count = record.len();
     if out.len() < count {
         return 7 * ANSWER;
     }
-    let room = &mut out[..count];
-    room.copy_from_slice(record);
+    out[..count].copy_from_slice(record);
     count as u32
 }

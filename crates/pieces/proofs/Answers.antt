@@ -6,34 +6,24 @@ use mathlib.Core.List.{List, ◌++◌}
 use native.Mathlib.Omega.{arith}
 use borrow.Author.Tests.{lt-ltb, le-ltb}
 use lib.ListN.{length, take}
-use Rattle.pieces.specs.declared.front.Front.{Front}
-use Rattle.pieces.specs.declared.front.Front.TheVariants.{Unended, Whole, Impossible}
-use Rattle.pieces.specs.declared.reader.Answer.{Answer}
-use Rattle.pieces.specs.declared.reader.Where.{Where}
+use Rattle.pieces.specs.Stream.{Front, Unended, Whole, Impossible, front, by_front}
 use Rattle.pieces.specs.declared.reader.Reader.{Reader}
-use Rattle.pieces.specs.declared.reader.Found.{Found}
-use Rattle.pieces.specs.Stream.{front, by_front}
-use Rattle.pieces.specs.Next.{Outcome, as_outcome, stopped_reader, refusal, kept, handed_on, begun, found, next_of}
+use Rattle.pieces.specs.Next.{Outcome, stopped_reader, refusal, kept, handed_on, begun, found, next_of}
 use Rattle.pieces.proofs.Fronts.{unended_short, whole_is, begun_unended, begun_whole}
 use Rattle.pieces.proofs.Seen.{seen_length}
 
-abbrev refused_as : Answer → Reader → Found
-refused_as a r = record { answer = a; lies = Where.Nowhere; size = 0; used = 0; reader = r }
-
 module _ (r : Reader) (carry piece : List ℕ) where
-  pub small_carry : {f : Found} → f ≡ refused_as Answer.SmallCarry r → length carry < 64 → as_outcome f carry ≡ next_of r carry piece
+  pub small_carry : length carry < 64 → refusal 22 r carry ≡ next_of r carry piece
   unfolding next_of
-  small_carry is h = rw (is, lt-ltb (length carry) 64 h)
+  small_carry h = rw (lt-ltb (length carry) 64 h)
 
-  pub stopped : {f : Found} → f ≡ refused_as Answer.Stopped r → 64 ≤ length carry → r.stopped ≡ true
-      → as_outcome f carry ≡ next_of r carry piece
+  pub stopped : 64 ≤ length carry → r.stopped ≡ true → refusal 21 r carry ≡ next_of r carry piece
   unfolding next_of
-  stopped is h so = rw (is, le-ltb (length carry) 64 h, so)
+  stopped h so = rw (le-ltb (length carry) 64 h, so)
 
-  pub too_many : {f : Found} → f ≡ refused_as Answer.Stopped r → 64 ≤ length carry → r.stopped ≡ false → 63 < r.carried
-      → as_outcome f carry ≡ next_of r carry piece
+  pub too_many : 64 ≤ length carry → r.stopped ≡ false → 63 < r.carried → refusal 21 r carry ≡ next_of r carry piece
   unfolding next_of
-  too_many is h so many = rw (is, le-ltb (length carry) 64 h, so, lt-ltb 63 r.carried many)
+  too_many h so many = rw (le-ltb (length carry) 64 h, so, lt-ltb 63 r.carried many)
 
   -- a reader that goes on
   module _ (room : 64 ≤ length carry) (so : r.stopped ≡ false) (few : r.carried ≤ 63) where
@@ -52,8 +42,8 @@ module _ (r : Reader) (carry piece : List ℕ) where
       pub hands_on : {n : ℕ} → f ≡ Whole n → {x : Outcome} → x ≡ handed_on r.carried carry piece n → x ≡ next_of r carry piece
       hands_on e {x} k = k ∙ (rw e at goes)
 
-      pub stops : f ≡ Impossible → {g : Found} → g ≡ refused_as Answer.ImpossibleLength stopped_reader → as_outcome g carry ≡ next_of r carry piece
-      stops e {g} k = rw k (rw e at goes)
+      pub stops : f ≡ Impossible → refusal 20 stopped_reader carry ≡ next_of r carry piece
+      stops e = rw e at goes
 
       pub keep_room : f ≡ Unended → r.carried + length piece ≤ length carry
       keep_room e =

@@ -8,10 +8,8 @@ use borrow.Author.Tests.{ltb-false, le-leb, eq-eqb, eqb-false}
 use lib.Dec.{eqb, ltb, eqb-suc-zero}
 use lib.ListN.{length, take, drop, length-drop}
 use lib.Seq.{paste, length-take-le, get_or-take}
-use Rattle.pieces.specs.declared.front.Front.{Front}
-use Rattle.pieces.specs.declared.front.Front.TheVariants.{Unended, Whole, Impossible}
+use Rattle.pieces.specs.Stream.{Front, Unended, Whole, Impossible, front, by_front}
 use Rattle.pieces.specs.declared.reader.Reader.{Reader}
-use Rattle.pieces.specs.Stream.{front, by_front}
 use Rattle.pieces.specs.Next.{Outcome, stopped_reader, refusal, kept, handed_on, begun, found, next_of, record_in}
 use Rattle.pieces.specs.Runs.{Fed, found_then, feed_within, feed, run}
 use Rattle.pieces.specs.Claims.{is_record, every?, Uses, is_impossible, applies, Answered, Refused, Small, SmallNumbers, BytesUsed, LoopEnds, WholeRecords}

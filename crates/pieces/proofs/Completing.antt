@@ -5,8 +5,7 @@ use mathlib.Core.List.{List, ◌++◌}
 use native.Mathlib.Omega.{arith}
 use lib.ListN.{length, take, drop}
 use lib.Seq.{paste, take-paste, length-paste, length-take-le, take-append-add, drop-append-add}
-use Rattle.pieces.specs.declared.front.Front.TheVariants.{Whole}
-use Rattle.pieces.specs.Stream.{front}
+use Rattle.pieces.specs.Stream.{Whole, front}
 use Rattle.pieces.proofs.Fronts.{whole_is}
 use Rattle.pieces.proofs.Seen.{seen_length}
 

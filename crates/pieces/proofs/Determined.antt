@@ -4,63 +4,80 @@ use Prim.Native.Nat.{ℕ}
 use mathlib.Core.Path.{◌≡◌, refl, sym, ◌∙◌, ap}
 use mathlib.Core.Bool.{cond}
 use mathlib.Core.List.{List}
+use Rattle.std.specs.Prelude.{Option, None, Some, Result, Ok, Err}
 use lib.Dec.{eqb}
-use Rattle.pieces.specs.declared.reader.Answer.{Answer}
+use Rattle.pieces.specs.declared.reader.Refusal.{Refusal}
 use Rattle.pieces.specs.declared.reader.Where.{Where}
 use Rattle.pieces.specs.declared.reader.Found.{Found}
-use Rattle.pieces.specs.Next.{Outcome, answer_number, where_number, as_outcome}
+use Rattle.pieces.specs.declared.reader.Reader.{Reader}
+use Rattle.pieces.specs.Next.{Outcome, answer_number, where_number, size_handed, as_outcome}
 use Rattle.pieces.specs.Claims.{NextDetermined}
 use Rattle.pieces.proofs.reader.Reader.fresh.Reads as fresh-promise
-use Rattle.pieces.proofs.reader.answer_number.Reads as answer-number-promise
+use Rattle.pieces.proofs.reader.Refusal.number.Reads as number-promise
 use Rattle.pieces.proofs.reader.where_number.Reads as where-number-promise
-use Rattle.pieces.proofs.reader.next.Reads as next-promise
+use Rattle.pieces.proofs.reader.Reader.next.Reads as next-promise
 use Rattle.pieces.proofs.reader.record_in.Reads as record-in-promise
 
--- the answer and the case of `Where` that a number stands for: no two have the same
-answer_back : ℕ → Answer
-answer_back n = cond (eqb n 0) Answer.Taken (cond (eqb n 20) Answer.ImpossibleLength (cond (eqb n 21) Answer.Stopped Answer.SmallCarry))
+-- the refusal and the place that a number stands for: no two have the same
+refusal_back : ℕ → Refusal
+refusal_back n = cond (eqb n 20) Refusal.ImpossibleLength (cond (eqb n 21) Refusal.Stopped Refusal.SmallCarry)
 
-answer_same : (a : Answer) → answer_back (answer_number a) ≡ a
-unfolding answer_back
-answer_same Answer.Taken = refl
-answer_same Answer.ImpossibleLength = refl
-answer_same Answer.Stopped = refl
-answer_same Answer.SmallCarry = refl
+refusal_same : (e : Refusal) → refusal_back (answer_number e) ≡ e
+unfolding refusal_back
+refusal_same Refusal.ImpossibleLength = refl
+refusal_same Refusal.Stopped = refl
+refusal_same Refusal.SmallCarry = refl
 
-where_back : ℕ → Where
-where_back n = cond (eqb n 0) Where.Nowhere (cond (eqb n 1) Where.Carry Where.Piece)
+handed_back : ℕ → ℕ → Option Where
+handed_back n size = cond (eqb n 0) None (cond (eqb n 1) (Some (Where.Carry size)) (Some (Where.Piece size)))
 
-where_same : (p : Where) → where_back (where_number p) ≡ p
-unfolding where_back
-where_same Where.Nowhere = refl
-where_same Where.Carry = refl
-where_same Where.Piece = refl
+handed_same : (h : Option Where) → handed_back (where_number h) (size_handed h) ≡ h
+unfolding handed_back
+handed_same None = refl
+handed_same (Some (Where.Carry size)) = refl
+handed_same (Some (Where.Piece size)) = refl
 
 -- what an outcome says of the code's result
-back : Outcome → Found
-back o = record { answer = answer_back o.answer; lies = where_back o.lies; size = o.size; used = o.used; reader = o.reader }
+back : Outcome → Result Found Refusal
+back o = cond (eqb o.answer 0) (Ok (record { handed = handed_back o.lies o.size; used = o.used })) (Err (refusal_back o.answer))
 
-same : (f : Found) (carry : List ℕ) → back (as_outcome f carry) ≡ f
-unfolding back
-same f carry = λ i. record { answer = answer_same f.answer i; lies = where_same f.lies i; size = f.size; used = f.used; reader = f.reader }
+same : (f : Result Found Refusal) (r : Reader) (carry : List ℕ) → back (as_outcome f r carry) ≡ f
+unfolding back refusal_back
+same (Ok f) r carry = λ i. Ok (record { handed = handed_same f.handed i; used = f.used })
+same (Err Refusal.ImpossibleLength) r carry = refl
+same (Err Refusal.Stopped) r carry = refl
+same (Err Refusal.SmallCarry) r carry = refl
+
+reader_same : (f : Result Found Refusal) (r : Reader) (carry : List ℕ) → (as_outcome f r carry).reader ≡ r
+reader_same (Ok f) r carry = refl
+reader_same (Err e) r carry = refl
+
+carry_same : (f : Result Found Refusal) (r : Reader) (carry : List ℕ) → (as_outcome f r carry).carry ≡ carry
+carry_same (Ok f) r carry = refl
+carry_same (Err e) r carry = refl
 
 pub same_found : NextDetermined
-same_found r carry piece f₁ f₂ c₁ c₂ e₁ e₂ =
-    (sym (same f₁ c₁) ∙ ap back (e₁ ∙ sym e₂) ∙ same f₂ c₂, ap (λ (o : Outcome). o.carry) (e₁ ∙ sym e₂))
+same_found r carry piece f₁ f₂ r₁ r₂ c₁ c₂ e₁ e₂ =
+    let e = e₁ ∙ sym e₂ in (
+      sym (same f₁ r₁ c₁) ∙ ap back e ∙ same f₂ r₂ c₂,
+      sym (reader_same f₁ r₁ c₁) ∙ ap (λ (o : Outcome). o.reader) e ∙ reader_same f₂ r₂ c₂,
+      sym (carry_same f₁ r₁ c₁) ∙ ap (λ (o : Outcome). o.carry) e ∙ carry_same f₂ r₂ c₂,
+    )
 
 -- ---- the functions
 
 pub fresh : (κs : _) (a : _) (r₁ r₂ : _) (e₁ e₂ : _) → fresh-promise.Learnt κs a r₁ e₁ → fresh-promise.Learnt κs a r₂ e₂ → r₁ ≡ r₂
 fresh κs a r₁ r₂ e₁ e₂ p q = p ∙ sym q
 
-pub answer_number_lem : (κs : _) (a : _) (r₁ r₂ : _) (e₁ e₂ : _) → answer-number-promise.Learnt κs a r₁ e₁ → answer-number-promise.Learnt κs a r₂ e₂ → r₁ ≡ r₂
-answer_number_lem κs a r₁ r₂ e₁ e₂ p q = p.0 ∙ sym q.0
+pub number : (κs : _) (a : _) (r₁ r₂ : _) (e₁ e₂ : _) → number-promise.Learnt κs a r₁ e₁ → number-promise.Learnt κs a r₂ e₂ → r₁ ≡ r₂
+number κs a r₁ r₂ e₁ e₂ p q = p.0 ∙ sym q.0
 
 pub where_number_lem : (κs : _) (a : _) (r₁ r₂ : _) (e₁ e₂ : _) → where-number-promise.Learnt κs a r₁ e₁ → where-number-promise.Learnt κs a r₂ e₂ → r₁ ≡ r₂
 where_number_lem κs a r₁ r₂ e₁ e₂ p q = p.0 ∙ sym q.0
 
-pub next : (κs : _) (a : _) (r₁ r₂ : _) (e₁ e₂ : _) → next-promise.Learnt κs a r₁ e₁ → next-promise.Learnt κs a r₂ e₂ → (r₁ ≡ r₂) × (e₁.1.0.now ≡ e₂.1.0.now)
-next κs a r₁ r₂ e₁ e₂ p q = same_found _ _ _ r₁ r₂ _ _ p q
+pub next : (κs : _) (a : _) (r₁ r₂ : _) (e₁ e₂ : _) → next-promise.Learnt κs a r₁ e₁ → next-promise.Learnt κs a r₂ e₂
+    → (r₁ ≡ r₂) × (e₁.0.now ≡ e₂.0.now) × (e₁.1.0.now ≡ e₂.1.0.now)
+next κs a r₁ r₂ e₁ e₂ p q = same_found _ _ _ r₁ r₂ _ _ _ _ p q
 
 pub record_in : (κs : _) (a : _) (r₁ r₂ : _) (e₁ e₂ : _) → record-in-promise.Learnt κs a r₁ e₁ → record-in-promise.Learnt κs a r₂ e₂ → r₁.now ≡ r₂.now
 record_in κs a r₁ r₂ e₁ e₂ p q = p ∙ sym q

@@ -8,10 +8,8 @@ use borrow.Author.Tests.{lt-ltb, le-ltb, ltb-true, ltb-false}
 use lib.Dec.{ltb, lit≤, eqb-suc-zero}
 use lib.ListN.{length, take, drop, length-drop}
 use lib.Seq.{paste, take-paste, length-paste, take-length, length-take-le}
-use Rattle.pieces.specs.declared.front.Front.{Front}
-use Rattle.pieces.specs.declared.front.Front.TheVariants.{Unended, Whole, Impossible}
+use Rattle.pieces.specs.Stream.{Front, Unended, Whole, Impossible, front, by_front, Held, after, holds}
 use Rattle.pieces.specs.declared.reader.Reader.{Reader}
-use Rattle.pieces.specs.Stream.{front, by_front, Held, after, holds}
 use Rattle.pieces.specs.Next.{Outcome, fresh_reader, stopped_reader, refusal, kept, handed_on, begun, found, next_of}
 use Rattle.pieces.specs.Runs.{Fed, found_then, feed_within, feed, fed_then, run, shown, joined}
 use Rattle.pieces.specs.Claims.{each}

@@ -7,9 +7,7 @@ use native.Mathlib.Omega.{arith}
 use borrow.Author.Tests.{ltb-true, ltb-false, leb-true, leb-false, le-ltb, le-leb}
 use lib.Dec.{leb, ltb}
 use lib.ListN.{length, length-append, get_or-append}
-use Rattle.pieces.specs.declared.front.Front.{Front}
-use Rattle.pieces.specs.declared.front.Front.TheVariants.{Unended, Whole, Impossible}
-use Rattle.pieces.specs.Stream.{length_field, possible, front}
+use Rattle.pieces.specs.Stream.{Front, Unended, Whole, Impossible, length_field, possible, front}
 use Rattle.pieces.specs.Next.{begun}
 
 -- a whole record of n bytes

@@ -7,9 +7,7 @@ use native.Mathlib.Omega.{arith}
 use borrow.Author.Tests.{lt-ltb}
 use lib.ListN.{length, take, drop, length-drop, take-append-drop}
 use lib.Seq.{take-append-le, drop-append-le}
-use Rattle.pieces.specs.declared.front.Front.{Front}
-use Rattle.pieces.specs.declared.front.Front.TheVariants.{Unended, Whole, Impossible}
-use Rattle.pieces.specs.Stream.{front, by_front, Held, left, stop, after, holds_within, holds}
+use Rattle.pieces.specs.Stream.{Front, Unended, Whole, Impossible, front, by_front, Held, left, stop, after, holds_within, holds}
 use Rattle.pieces.specs.Runs.{joined}
 use Rattle.pieces.specs.Claims.{Holds}
 use Rattle.pieces.proofs.Fronts.{whole_is, whole_append, impossible-append}

@@ -1,11 +1,10 @@
 -- What is claimed of the reader, as types. proofs/Claims.antt has a proof of each. A run is one of `next` as a host calls it (Runs), and
 -- `next` meets Next's `next_of` for every reader, carry and piece.
-use Rattle.std.specs.Prelude.{ℕ, ◌≤◌, ◌<◌, ◌≡◌, Bool, true, false, cond, ◌&&◌, ◌||◌, List, [], ◌∷◌, ◌++◌, eqb, ltb, length, take, drop}
-use Rattle.pieces.specs.declared.front.Front.{Front}
-use Rattle.pieces.specs.declared.front.Front.TheVariants.{Unended, Whole, Impossible}
+use Rattle.std.specs.Prelude.{ℕ, ◌≤◌, ◌<◌, ◌≡◌, Result, Bool, true, false, cond, ◌&&◌, ◌||◌, List, [], ◌∷◌, ◌++◌, eqb, ltb, length, take, drop}
+use Rattle.pieces.specs.Stream.{Front, Unended, Whole, Impossible, length_field, possible, front, by_front, left, stop, after, holds}
 use Rattle.pieces.specs.declared.reader.Reader.{Reader}
+use Rattle.pieces.specs.declared.reader.Refusal.{Refusal}
 use Rattle.pieces.specs.declared.reader.Found.{Found}
-use Rattle.pieces.specs.Stream.{length_field, possible, front, by_front, left, stop, after, holds}
 use Rattle.pieces.specs.Next.{Outcome, as_outcome, fresh_reader, stopped_reader, refusal, begun, next_of}
 use Rattle.pieces.specs.Runs.{feed_within, feed, run, shown, joined}
 
@@ -142,8 +141,10 @@ pub record Small (o : Outcome) : Type 0 where
 abbrev pub SmallNumbers : Type 0
 SmallNumbers = (r : Reader) (carry piece : List ℕ) → r.carried ≤ 63 → Small (next_of r carry piece)
 
--- two results that the promise of `next` allows are equal, with every byte of the carry
+-- two results that the promise of `next` allows are equal, with the reader and every byte of the carry
 abbrev pub NextDetermined : Type 0
 NextDetermined =
-    (r : Reader) (carry piece : List ℕ) (f₁ f₂ : Found) (c₁ c₂ : List ℕ) →
-    as_outcome f₁ c₁ ≡ next_of r carry piece → as_outcome f₂ c₂ ≡ next_of r carry piece → (f₁ ≡ f₂) × (c₁ ≡ c₂)
+    (r : Reader) (carry piece : List ℕ) (f₁ f₂ : Result Found Refusal) (r₁ r₂ : Reader) (c₁ c₂ : List ℕ) →
+    as_outcome f₁ r₁ c₁ ≡ next_of r carry piece →
+    as_outcome f₂ r₂ c₂ ≡ next_of r carry piece →
+    (f₁ ≡ f₂) × (r₁ ≡ r₂) × (c₁ ≡ c₂)

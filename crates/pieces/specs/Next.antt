@@ -1,13 +1,12 @@
 -- One piece: what `next` answers, where the record is, how many bytes of the piece were used, and every byte of the carry then.
-use Rattle.std.specs.Prelude.{ℕ, ◌+◌, ◌-◌, true, false, cond, ◌||◌, List, [], ◌++◌, eqb, ltb, length, take}
+use Rattle.std.specs.Prelude.{ℕ, ◌+◌, ◌-◌, Option, None, Some, Result, Ok, Err, true, false, cond, ◌||◌, List, [], ◌++◌, eqb, ltb, length, take}
 use Rattle.std.proofs.Math.Seq.{paste}
-use Rattle.pieces.specs.declared.front.Front.{Front}
-use Rattle.pieces.specs.declared.front.Front.TheVariants.{Unended, Whole, Impossible}
-use Rattle.pieces.specs.declared.reader.Answer.{Answer}
+use Rattle.pieces.specs.Stream.{Front, Unended, Whole, Impossible, front, by_front}
+use Rattle.pieces.specs.declared.front.ImpossibleLength.{ImpossibleLength}
+use Rattle.pieces.specs.declared.reader.Refusal.{Refusal}
 use Rattle.pieces.specs.declared.reader.Where.{Where}
 use Rattle.pieces.specs.declared.reader.Reader.{Reader}
 use Rattle.pieces.specs.declared.reader.Found.{Found}
-use Rattle.pieces.specs.Stream.{front, by_front}
 
 abbrev pub fresh_reader : Reader
 fresh_reader = record { carried = 0; stopped = false }
@@ -15,17 +14,22 @@ fresh_reader = record { carried = 0; stopped = false }
 abbrev pub stopped_reader : Reader
 stopped_reader = record { carried = 0; stopped = true }
 
--- the number of each answer, and of where the record is
-abbrev pub answer_number : Answer → ℕ
-answer_number Answer.Taken = 0
-answer_number Answer.ImpossibleLength = 20
-answer_number Answer.Stopped = 21
-answer_number Answer.SmallCarry = 22
+-- the number of each refusal, and of where the record is
+abbrev pub answer_number : Refusal → ℕ
+answer_number Refusal.ImpossibleLength = 20
+answer_number Refusal.Stopped = 21
+answer_number Refusal.SmallCarry = 22
 
-abbrev pub where_number : Where → ℕ
-where_number Where.Nowhere = 0
-where_number Where.Carry = 1
-where_number Where.Piece = 2
+abbrev pub where_number : Option Where → ℕ
+where_number None = 0
+where_number (Some (Where.Carry size)) = 1
+where_number (Some (Where.Piece size)) = 2
+
+-- no bytes where nothing is handed on
+abbrev pub size_handed : Option Where → ℕ
+size_handed None = 0
+size_handed (Some (Where.Carry size)) = size
+size_handed (Some (Where.Piece size)) = size
 
 -- what comes back, with the carry then
 pub record Outcome : Type 0 where
@@ -36,10 +40,14 @@ pub record Outcome : Type 0 where
   pub reader : Reader
   pub carry : List ℕ
 
-abbrev pub as_outcome : Found → List ℕ → Outcome
-as_outcome f carry =
-    record
-    { answer = answer_number f.answer; lies = where_number f.lies; size = f.size; used = f.used; reader = f.reader; carry = carry }
+abbrev pub as_taken : Found → Reader → List ℕ → Outcome
+as_taken f r carry =
+    record { answer = 0; lies = where_number f.handed; size = size_handed f.handed; used = f.used; reader = r; carry = carry }
+
+-- the code's result, with the reader and the carry then
+abbrev pub as_outcome : Result Found Refusal → Reader → List ℕ → Outcome
+as_outcome (Ok f) r carry = as_taken f r carry
+as_outcome (Err e) r carry = record { answer = answer_number e; lies = 0; size = 0; used = 0; reader = r; carry = carry }
 
 -- a refusal hands nothing on, uses no byte and changes none
 abbrev pub refusal : ℕ → Reader → List ℕ → Outcome
@@ -70,6 +78,12 @@ handed_on carried carry piece size =
       reader = fresh_reader;
       carry = paste carry carried piece (size - carried);
     })
+
+-- what the code sees at the front
+abbrev pub as_front : Result (Option ℕ) ImpossibleLength → Front
+as_front (Ok None) = Unended
+as_front (Ok (Some size)) = Whole size
+as_front (Err e) = Impossible
 
 -- a record that was begun has more bytes than are carried, else it would have been handed on already: a carry that says otherwise was
 -- written to by another, and its length is impossible too

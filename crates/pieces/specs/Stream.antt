@@ -1,7 +1,5 @@
 -- What a stream of bytes holds: the records at its front, and then the bytes left of a record that has not ended, or a length that stops it.
 use Rattle.std.specs.Prelude.{ℕ, zero, suc, ◌+◌, ◌*◌, Bool, true, false, cond, ◌&&◌, List, [], ◌∷◌, leb, ltb, length, get_or, take, drop}
-use Rattle.pieces.specs.declared.front.Front.{Front}
-use Rattle.pieces.specs.declared.front.Front.TheVariants.{Unended, Whole, Impossible}
 
 -- the length of a record is its first two bytes, the lower first
 abbrev pub length_field : List ℕ → ℕ
@@ -11,7 +9,12 @@ length_field s = get_or s 0 0 + 256 * get_or s 1 0
 abbrev pub possible : ℕ → Bool
 possible n = leb 4 n && leb n 64
 
--- what some bytes begin with: a whole record of so many bytes, a length that no record has, or neither yet
+-- what some bytes begin with: bytes of a record that has not ended, or none; a whole record of so many bytes; a length that no record has
+pub data Front : Type 0 where
+  Unended : Front
+  Whole : ℕ → Front
+  Impossible : Front
+
 unfoldable pub front : List ℕ → Front
 front s =
     cond (ltb (length s) 2) Unended

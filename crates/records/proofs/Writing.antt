@@ -1,20 +1,30 @@
--- A record written from left to right: the tests of its fields, and the stores of head and fields one after the other, are those of its row.
-use Prim.Native.Nat.{ℕ, ◌+◌, ◌%◌, ◌<◌, ◌≤◌}
-use mathlib.Core.Bool.{Bool, true, false, not, ◌&&◌, and-true}
+-- A record written: the tests of its fields, and the head and the body stored one after the other, are those of its row.
+use Prim.Native.Nat.{ℕ, ◌+◌, ◌-◌, ◌/◌, ◌%◌, ◌<◌, ◌≤◌}
+use mathlib.Core.Bool.{Bool, true, false, ◌&&◌, and-true}
 use mathlib.Core.List.{List, [], ◌∷◌, ◌++◌, append_assoc}
 use mathlib.Core.Path.{◌≡◌, refl, sym, ◌∙◌, ap}
 use native.Mathlib.Nat.{zero-add, mod-eq_of_lt}
 use native.Mathlib.Omega.{arith}
-use borrow.Author.Tests.{lt-leb, le-leb, not-true, not-false}
+use borrow.Author.Tests.{lt-leb, le-leb, ltb-true}
 use lib.Dec.{leb}
-use lib.ListN.{length, set, length-append}
-use lib.Seq.{sets}
+use lib.ListN.{length}
+use lib.Seq.{sets, sets-eq}
+use borrow.Rule.Slice.PartMut.{put_mid, Post-is}
+use Rattle.std.specs.Int.{w16, w32, to_le_bytes}
+use lib.ListN.{get_or}
 use Rattle.records.specs.declared.letters.Byte.{Byte}
+use Rattle.records.specs.declared.letters.Word.{Word}
+use Rattle.records.specs.declared.letters.Long.{Long}
 use Rattle.records.specs.Bytes.{bytes}
-use Rattle.records.specs.Letters.{Letter, width, fits}
-use Rattle.records.specs.Bodies.{Values, Flat, Stored, Wrote, wrote, not_written, size, all_fit, body_bytes, flat_size, flat_fits, flat_bytes, written, laid, laid_next}
-use Rattle.records.specs.Tables.{Table, flat, fine, write}
-use Rattle.records.proofs.Laws.{by_test, sets-append, length-bytes, length-flat_bytes}
+use Rattle.records.specs.Letters.{Letter, fits}
+use Rattle.records.specs.Bodies.{Values, Flat, Stored, Wrote, wrote, not_written, size, all_fit, body_bytes, flat_size, flat_fits, flat_bytes, written, line_bytes, laid, laid_next}
+use Rattle.records.specs.Tables.{Table, flat, fine}
+use Rattle.records.specs.declared.events.Event.{Event}
+use Rattle.records.specs.declared.messages.Message.{Message}
+use Rattle.records.specs.Events.{events, event_bytes}
+use Rattle.records.specs.Messages.{messages, message_bytes}
+use Rattle.records.specs.Records.{short}
+use Rattle.records.proofs.Laws.{both, by_test, length-body_bytes}
 
 -- ---- the tests
 
@@ -26,11 +36,6 @@ pub none : Tested [] tt true
 unfolding all_fit
 none = record { same = refl }
 
--- a test of nothing that came out well
-pub no_more : {b : Bool} → b ≡ true → Tested [] tt b
-unfolding all_fit
-no_more e = record { same = e }
-
 pub only : {l : Letter} {v : ℕ} {b : Bool} → b ≡ fits l v → Tested (l ∷ []) (v, tt) b
 unfolding all_fit
 only e = record { same = e ∙ sym (and-true _) }
@@ -39,34 +44,31 @@ pub also : {l : Letter} {ls : List Letter} {v : ℕ} {vs : Values ls} {a b : Boo
 unfolding all_fit
 also e t = record { same = rw (e, t.same) }
 
--- ---- the stores
+-- ---- a body as its bytes
 
--- values stored from a position on
-pub record Put (ls : List Letter) (vs : Values ls) (old : List ℕ) (at : ℕ) (new : List ℕ) : Type 0 where
-  pub now : new ≡ sets old at (body_bytes ls vs)
+-- the bytes of letters' values
+pub record Body (ls : List Letter) (vs : Values ls) (out : List ℕ) : Type 0 where
+  pub are : out ≡ body_bytes ls vs
 
-pub done : {l : List ℕ} {at : ℕ} → Put [] tt l at l
+pub end : Body [] tt []
 unfolding body_bytes
-done = record { now = refl }
+end = record { are = refl }
 
-pub put : {l : Letter} {ls : List Letter} {v : ℕ} {vs : Values ls} {old mid new : List ℕ} {at : ℕ} → mid ≡ sets old at (bytes (width l) v) → Put ls vs mid (at + width l) new → Put (l ∷ ls) (v, vs) old at new
-unfolding body_bytes
-put {l} {ls} {v} {vs} {old} {mid} {new} {at} e p =
-    record { now = rw (sets-append (bytes (width l) v) old (body_bytes ls vs) at, length-bytes, ← e) p.now }
+module _ {ls : List Letter} {vs : Values ls} {out : List ℕ} where
+  pub byte_then : {b : Byte} {v : ℕ} → v < 256 → Body ls vs out → Body (Letter.byte b ∷ ls) (v, vs) (v ∷ out)
+  unfolding body_bytes bytes
+  byte_then {v = v} small rest = let e : v % 256 ≡ v = mod-eq_of_lt small in record { are = rw (e, rest.are) }
 
--- a byte where it stands; it is its own remainder by 256
-pub store : {b : Byte} {ls : List Letter} {v : ℕ} {vs : Values ls} {old new : List ℕ} {at : ℕ} → v < 256 → Put ls vs (set old at v) (at + 1) new → Put (Letter.byte b ∷ ls) (v, vs) old at new
-unfolding bytes
-store {v = v} small p = let e : v % 256 ≡ v = mod-eq_of_lt small in put (rw e) p
+  pub word_then : {w : Word} {v : ℕ} {r : List ℕ} → r ≡ to_le_bytes w16 v → Body ls vs out → Body (Letter.word w ∷ ls) (v, vs) (get_or r 0 0 ∷ get_or r 1 0 ∷ out)
+  unfolding body_bytes bytes
+  word_then same rest = record { are = rw (same, rest.are) }
 
-module _ (f : Flat) (old : List ℕ) {mid new : List ℕ} (head : mid ≡ sets old 0 (bytes 2 (4 + size f.letters) ++ bytes 2 f.kind)) (body : Put f.letters f.values mid 4 new) where
-  -- head and values make the record
-  record_stored : new ≡ sets old 0 (flat_bytes f)
-  unfolding flat_bytes flat_size
-  record_stored =
-      let h : List ℕ = bytes 2 (4 + size f.letters) ++ bytes 2 f.kind in
-      let four : 0 + length h ≡ 4 = simp (length-append, length-bytes) in
-      rw (← append_assoc, sets-append h old (body_bytes f.letters f.values) 0, four, ← head) body.now
+  pub long_then : {a : Long} {v : ℕ} {r : List ℕ} → r ≡ to_le_bytes w32 v → Body ls vs out → Body (Letter.long a ∷ ls) (v, vs) (get_or r 0 0 ∷ get_or r 1 0 ∷ get_or r 2 0 ∷ get_or r 3 0 ∷ out)
+  unfolding body_bytes bytes
+  long_then {v = v} same rest =
+      let third : v / 65536 ≡ v / 256 / 256 = omega arith in
+      let fourth : v / 16777216 ≡ v / 256 / 256 / 256 = omega arith in
+      record { are = rw (same, third, fourth, rest.are) }
 
 -- ---- a record into a buffer
 
@@ -81,16 +83,39 @@ module _ (out buffer : List ℕ) (at : ℕ) where
   unfolding laid laid_next
   all_laid h s = rw (le-leb (at + length out) (length buffer) h, s.end, s.now)
 
-module _ (f : Flat) (old : List ℕ) where
-  pub too_long : length old < 4 + size f.letters → ◌≡◌ {A = ℕ × List ℕ} (0, old) (laid_next (flat_bytes f) old 0, laid (flat_bytes f) old 0)
-  unfolding flat_size
-  too_long h = no_room (flat_bytes f) old 0 (rw length-flat_bytes (omega arith))
+-- a part copied into a buffer
+pub copied : (old : List ℕ) (at end : ℕ) (part : List ℕ) → end ≡ at + length part → end ≤ length old → Stored old at part end (put_mid at (end - at) old part)
+copied old at end part e room =
+    let behind : at ≤ end = omega arith in
+    record { end = e; now = rw (Post-is at end old behind, e, ← append_assoc) (sym (sets-eq part old at (omega arith))) }
 
-  pub fitting : 4 + size f.letters ≤ length old → {mid new : List ℕ} → mid ≡ sets old 0 (bytes 2 (4 + size f.letters) ++ bytes 2 f.kind) → Put f.letters f.values mid 4 new → ◌≡◌ {A = ℕ × List ℕ} (4 + size f.letters, new) (laid_next (flat_bytes f) old 0, laid (flat_bytes f) old 0)
-  unfolding flat_size
-  fitting room head body =
-      all_laid (flat_bytes f) old 0 (rw length-flat_bytes (omega arith))
-      (record { end = rw length-flat_bytes (omega arith); now = record_stored f old head body })
+-- the length takes two bytes, which are those of its remainder by 65536
+two_bytes : (v : ℕ) → bytes 2 (v % 65536) ≡ bytes 2 v
+unfolding bytes
+two_bytes v =
+    let a : v % 65536 % 256 ≡ v % 256 = omega arith in
+    let b : v % 65536 / 256 % 256 ≡ v / 256 % 256 = omega arith in
+    rw (a, b)
+
+-- the head before a body
+pub headed : (kind size : ℕ) {r q body : List ℕ} → r ≡ to_le_bytes w16 (size % 65536) → q ≡ to_le_bytes w16 kind → size ≡ 4 + length body → (get_or r 0 0 ∷ get_or r 1 0 ∷ get_or q 0 0 ∷ get_or q 1 0 ∷ []) ++ body ≡ line_bytes kind body
+unfolding line_bytes bytes
+headed kind size {body = body} e f same =
+    let two : bytes 2 (size % 65536) ≡ bytes 2 (4 + length body) = rw (two_bytes, same) in
+    rw (e, f) (ap (λ (l : List ℕ). l ++ (kind % 256 ∷ kind / 256 % 256 ∷ body)) two)
+
+-- a record by its kind and its body
+pub row_bytes : (f : Flat) {out : List ℕ} → Body f.letters f.values out → line_bytes f.kind out ≡ flat_bytes f
+unfolding line_bytes flat_bytes flat_size
+row_bytes f body = rw (body.are, length-body_bytes)
+
+pub message_line : (m : Message) {out : List ℕ} → Body (flat messages m).letters (flat messages m).values out → line_bytes (flat messages m).kind out ≡ message_bytes m
+unfolding message_bytes
+message_line m body = row_bytes (flat messages m) body
+
+pub event_line : (e : Event) {out : List ℕ} → Body (flat events e).letters (flat events e).values out → line_bytes (flat events e).kind out ≡ event_bytes e
+unfolding event_bytes
+event_line e body = row_bytes (flat events e) body
 
 module _ (t : Table) (v : t.Value) where
   -- every test of a value
@@ -103,18 +128,16 @@ module _ (t : Table) (v : t.Value) where
   agreeing tested agrees = rw (agrees, tested.same)
 
 -- what is written by a test of the fields
-module _ (t : Table) (v : t.Value) (buffer : List ℕ) {b : Bool} (same : b ≡ fine t v) where
-  pub untested : not b ≡ true → (not_written 4, buffer) ≡ write t v buffer
-  unfolding write written
-  untested h = rw (← same, not-true b h)
+module _ (out buffer : List ℕ) {fine b : Bool} (same : b ≡ fine) where
+  pub untested : b ≡ false → (not_written 4, buffer) ≡ written fine out buffer
+  unfolding written
+  untested h = rw (← same, h)
 
-  pub tested : not b ≡ false → {w : Wrote × List ℕ} → w ≡ written true (flat_bytes (flat t v)) buffer → w ≡ write t v buffer
-  unfolding write
-  tested h e = rw (← same, not-false b h) e
+  pub tested : b ≡ true → {w : Wrote × List ℕ} → w ≡ written true out buffer → w ≡ written fine out buffer
+  tested h e = rw (← same, h) e
 
-pub bytes_some : (f : Flat) → 0 < length (flat_bytes f)
-unfolding flat_size
-bytes_some f = rw length-flat_bytes (omega arith)
+pub some_bytes : (out : List ℕ) → short out ≡ true → 0 < length out
+some_bytes out h = ltb-true _ _ (both _ _ h).0
 
 -- ---- a record, from what laying it at the front leaves
 

@@ -1,14 +1,11 @@
 -- A record without its meaning: a kind, and a body of letters with their values, from bytes and into bytes.
-use Rattle.std.specs.Prelude.{ℕ, ◌+◌, Bool, true, cond, ◌&&◌, List, [], ◌∷◌, ◌++◌, ◌≡◌, leb, eqb, length}
+use Rattle.std.specs.Prelude.{ℕ, ◌+◌, Bool, true, false, cond, ◌&&◌, List, [], ◌∷◌, ◌++◌, ◌≡◌, leb, eqb, length, Option as Maybe, Some, None, Result, Ok, Err}
 use Rattle.std.proofs.Math.Option.{Option, none, some}
 use Rattle.std.proofs.lemmas.List.Edits.{sets}
 use Rattle.records.specs.Bytes.{number, bytes}
 use Rattle.records.specs.Letters.{Letter, width, fits, s}
-use Rattle.records.specs.declared.bodies.Head.{Head}
-use Rattle.records.specs.declared.bodies.Written.{Written}
-use Rattle.records.specs.declared.fields.ByteField.{ByteField}
-use Rattle.records.specs.declared.fields.WordField.{WordField}
-use Rattle.records.specs.declared.fields.LongField.{LongField}
+use Rattle.records.specs.declared.bodies.Unreadable.{Unreadable}
+use Rattle.records.specs.declared.bodies.Unwritable.{Unwritable}
 
 -- a value for each letter
 abbrev pub Values : List Letter → Type 0
@@ -114,24 +111,37 @@ pub record Stored (old : List ℕ) (at : ℕ) (xs : List ℕ) (next : ℕ) (new 
 
 -- the code's types, in these terms
 
-abbrev pub as_head : Head → Option ℕ
-as_head (Head.Kind k) = some k
-as_head Head.Bad = none
+abbrev pub as_head : Maybe ℕ → Option ℕ
+as_head (Some k) = some k
+as_head None = none
 
--- what a reader of one field answers, of a letter at a position
-abbrev pub as_byte : ℕ → ByteField → Found ℕ
-as_byte at (ByteField.Is v) = is v
-as_byte at ByteField.Bad = bad_at at
+-- what a reader of one field answers
+abbrev pub field : Found ℕ → Result ℕ Unreadable
+field (is v) = Ok v
+field (bad_at p) = Err (Unreadable.BadBody p)
 
-abbrev pub as_word : ℕ → WordField → Found ℕ
-as_word at (WordField.Is v) = is v
-as_word at WordField.Bad = bad_at at
+-- what a test of a record's size answers
+abbrev pub size_or_place : Bool → Result Unit Unreadable
+size_or_place true = Ok tt
+size_or_place false = Err (Unreadable.BadBody 2)
 
-abbrev pub as_long : ℕ → LongField → Found ℕ
-as_long at (LongField.Is v) = is v
-as_long at LongField.Bad = bad_at at
+-- the number of a refusal, and the place that comes with it
+abbrev pub unreadable_number : Unreadable → ℕ
+unreadable_number Unreadable.BadLength = 2
+unreadable_number Unreadable.UnknownKind = 3
+unreadable_number Unreadable.Retired = 9
+unreadable_number (Unreadable.BadBody place) = 4
 
-abbrev pub as_wrote : Written → Wrote
-as_wrote (Written.Count n) = wrote n
-as_wrote Written.BadField = not_written 4
-as_wrote Written.NoRoom = not_written 7
+abbrev pub unreadable_place : Unreadable → ℕ
+unreadable_place Unreadable.BadLength = 0
+unreadable_place Unreadable.UnknownKind = 0
+unreadable_place Unreadable.Retired = 0
+unreadable_place (Unreadable.BadBody place) = place
+
+abbrev pub unwritable_number : Unwritable → ℕ
+unwritable_number Unwritable.BadField = 4
+unwritable_number Unwritable.NoRoom = 7
+
+abbrev pub as_wrote : Result ℕ Unwritable → Wrote
+as_wrote (Ok n) = wrote n
+as_wrote (Err u) = not_written (unwritable_number u)

@@ -3,9 +3,8 @@
 use Rattle.std.specs.Prelude.{ℕ, zero, suc, true, List, [], ◌∷◌, ◌++◌}
 use Rattle.records.specs.Letters.{a₁, d, q, k, i, g, o, a, r, o₁₆, i₀, n, s}
 use Rattle.records.specs.declared.events.Event.{Event}
-use Rattle.records.specs.declared.events.EventRead.{EventRead}
 use Rattle.records.specs.Bodies.{Values, flat_bytes, laid, laid_next}
-use Rattle.records.specs.Tables.{Row, row, Table, Read, taken, refused, flat}
+use Rattle.records.specs.Tables.{Row, row, Table, flat}
 
 pub data EventKind : Type 0 where
   setup_request setup_request_slots setup_response release_request tx_request d_call_proceeding d_alert d_connect d_connect_slots d_connect_acknowledge d_setup d_info d_info_slots d_tx_granted d_tx_ceased d_tx_interrupt d_tx_wait d_tx_continue d_call_restore d_disconnect d_release report_sent report_failed break resume expiry : EventKind
@@ -156,14 +155,6 @@ events =
       agrees = λ e. true;
       clash = 0;
     }
-
--- the paper's number and value for each case of the code's answer
-abbrev pub as_event_read : EventRead → Read Event
-as_event_read (EventRead.Is e) = taken e
-as_event_read EventRead.BadLength = refused 2 0
-as_event_read EventRead.UnknownKind = refused 3 0
-as_event_read EventRead.Retired = refused 9 0
-as_event_read (EventRead.BadBody place) = refused 4 place
 
 -- an event as bytes
 unfoldable pub event_bytes : Event → List ℕ

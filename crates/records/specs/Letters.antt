@@ -3,7 +3,6 @@ use Rattle.std.specs.Prelude.{ℕ, zero, suc, Bool, true, ◌&&◌, ◌||◌, le
 use Rattle.records.specs.declared.letters.Byte.{Byte}
 use Rattle.records.specs.declared.letters.Word.{Word}
 use Rattle.records.specs.declared.letters.Long.{Long}
-use Rattle.records.specs.declared.letters.Span.{Span}
 
 pub data Letter : Type 0 where
   byte : Byte → Letter
@@ -95,6 +94,11 @@ is_timer v = eqb v 301 || eqb v 302 || eqb v 303 || eqb v 306 || eqb v 308 || eq
 -- one of the two timers of direct mode
 unfoldable pub is_direct_timer : ℕ → Bool
 is_direct_timer v = eqb v 303 || eqb v 311
+
+-- the least and the most that a letter of one byte may stand for
+pub record Span : Type 0 where
+  pub least : ℕ
+  pub most : ℕ
 
 abbrev pub from : ℕ → ℕ → Span
 from least most = record { least = least; most = most }

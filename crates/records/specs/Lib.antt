@@ -6,3 +6,4 @@ pub mod Tables
 pub mod Events
 pub mod Messages
 pub mod Laws
+pub mod Records

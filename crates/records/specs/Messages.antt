@@ -3,9 +3,8 @@
 use Rattle.std.specs.Prelude.{ℕ, zero, suc, ◌+◌, Bool, true, ◌||◌, List, [], ◌∷◌, ◌++◌, eqb}
 use Rattle.records.specs.Letters.{width, a₁, d, q, i, i₀, c, a, n, o, p, g, x, s, y, u, v}
 use Rattle.records.specs.declared.messages.Message.{Message}
-use Rattle.records.specs.declared.messages.MessageRead.{MessageRead}
 use Rattle.records.specs.Bodies.{Values, flat_bytes, flat_size, laid, laid_next}
-use Rattle.records.specs.Tables.{Row, row, Table, Read, taken, refused, flat}
+use Rattle.records.specs.Tables.{Row, row, Table, flat}
 
 pub data MessageKind : Type 0 where
   u_setup u_setup_slots u_connect u_disconnect u_release u_info u_tx_demand u_tx_ceased u_call_restore stop start configure cancel setup_indication setup_confirm proceed alert complete release_indication release_confirm tx_indication modify_indication named_place channel_answer : MessageKind
@@ -173,13 +172,6 @@ messages =
       agrees = message_agrees;
       clash = 4 + width n;  -- START's o, behind its n
     }
-
--- the paper's number and value for each case of the code's answer
-abbrev pub as_message_read : MessageRead → Read Message
-as_message_read (MessageRead.Is m) = taken m
-as_message_read MessageRead.BadLength = refused 2 0
-as_message_read MessageRead.UnknownKind = refused 3 0
-as_message_read (MessageRead.BadBody place) = refused 4 place
 
 -- a message as bytes, and how many they are
 unfoldable pub message_bytes : Message → List ℕ

@@ -1,8 +1,9 @@
 -- Reading and writing by a table: each kind's number and letters, and the values that they stand for.
-use Rattle.std.specs.Prelude.{ℕ, ◌+◌, Bool, true, false, cond, ◌&&◌, List, [], ◌∷◌, eqb, length}
+use Rattle.std.specs.Prelude.{ℕ, ◌+◌, Bool, true, false, cond, ◌&&◌, List, [], ◌∷◌, eqb, length, Result, Ok, Err}
 use Rattle.std.proofs.Math.Option.{Option, none, some}
 use Rattle.records.specs.Letters.{Letter}
-use Rattle.records.specs.Bodies.{Values, size, Flat, Found, is, bad_at, Wrote, body_of, kind_in, flat_fits, flat_bytes, written}
+use Rattle.records.specs.Bodies.{Values, size, Flat, Found, is, bad_at, Wrote, body_of, kind_in, flat_fits, flat_bytes, written, unreadable_number, unreadable_place}
+use Rattle.records.specs.declared.bodies.Unreadable.{Unreadable}
 
 -- a line of a table
 pub record Row : Type 0 where
@@ -94,3 +95,8 @@ module _ (t : Table) where
 
   unfoldable pub write : t.Value → List ℕ → Wrote × List ℕ
   write v buffer = written (fine v) (flat_bytes (flat v)) buffer
+
+-- the number, the place and the value of what the code reads
+abbrev pub as_read : {A : Type 0} → Result A Unreadable → Read A
+as_read (Ok v) = taken v
+as_read (Err u) = refused (unreadable_number u) (unreadable_place u)

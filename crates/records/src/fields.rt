@@ -1,127 +1,97 @@
-// One field of a record: a letter's value from bytes, and into bytes.
-ghost use Rattle.std.specs.Prelude.{◌≡◌, ◌+◌, ◌<◌, ◌≤◌, ◌++◌, length};
-ghost use Rattle.records.specs.Bytes.{number, bytes};
+// One field of a record: a letter's value from bytes. Open to the crates of this repository, which test first that the field lies within
+// the slice; no host reaches it.
+ghost use Rattle.std.specs.Prelude.{◌≡◌, ◌+◌, ◌<◌, ◌≤◌, ◌||◌, eqb, length};
+ghost use Rattle.records.specs.Bytes.{number};
 ghost use Rattle.records.specs.Letters.{Letter};
-ghost use Rattle.records.specs.Bodies.{Stored, value_at, slots_at, as_byte, as_word, as_long};
+ghost use Rattle.records.specs.Bodies.{value_at, slots_at, field, size_or_place};
 
+use crate::bodies::Unreadable;
 use crate::letters::{Byte, Long, Word, byte_fits, long_fits, word_fits};
 
-// What stands at a letter, at each width: its value, or a number out of its range.
-
-#[derive(Clone, Copy)]
-pub enum ByteField {
-    Is(u8),
-    Bad,
-}
-
-#[derive(Clone, Copy)]
-pub enum WordField {
-    Is(u16),
-    Bad,
-}
-
-#[derive(Clone, Copy)]
-pub enum LongField {
-    Is(u32),
-    Bad,
-}
-
+#[tactic(auto, unfolding(crate::specs::Bytes::number))]
 pub fn word_at(s: &[u8], at: usize) -> u16
     requires { at + 2 ≤ length s.now }
     ensures { result ≡ number 2 s.now at }
 {
-    let low = s[at] as u16;
-    let high = s[at + 1] as u16;
-    low + 256 * high
+    u16::from_le_bytes([s[at], s[at + 1]])
 }
 
+#[tactic(auto, unfolding(crate::specs::Bytes::number))]
 pub fn long_at(s: &[u8], at: usize) -> u32
     requires { at + 4 ≤ length s.now }
     ensures { result ≡ number 4 s.now at }
 {
-    let low = word_at(s, at) as u32;
-    let high = word_at(s, at + 2) as u32;
-    low + 65536 * high
+    u32::from_le_bytes([s[at], s[at + 1], s[at + 2], s[at + 3]])
 }
 
-pub fn byte_in(s: &[u8], at: usize, letter: Byte) -> ByteField
-    requires { at < length s.now }
-    ensures { as_byte at result ≡ value_at (Letter.byte letter) s.now at }
+// The size of a body's record is tested before its fields: a wrong one is wrong at 2.
+
+pub fn size_is(s: &[u8], size: usize) -> Result<(), Unreadable>
+    ensures { result ≡ size_or_place (eqb (length s.now) size) }
 {
-    let v = s[at];
-    if !byte_fits(letter, v) {
-        return ByteField::Bad;
+    if s.len() != size {
+        return Err(Unreadable::BadBody(2));
     }
-    ByteField::Is(v)
+    Ok(())
+}
+
+// A body that may carry the slots at its end.
+pub fn size_with_slots(s: &[u8], size: u8) -> Result<(), Unreadable>
+    ensures { result ≡ size_or_place (eqb (length s.now) size || eqb (length s.now) (size + 1)) }
+{
+    let size = size as usize;
+    if s.len() != size && s.len() != size + 1 {
+        return Err(Unreadable::BadBody(2));
+    }
+    Ok(())
+}
+
+// What stands at a letter, at each width: its value, or the place of a number out of its range.
+
+#[tactic(auto, unfolding(crate::specs::Bodies::value_at, crate::specs::Bytes::number))]
+pub fn byte_in(s: &[u8], at: u8, letter: Byte) -> Result<u8, Unreadable>
+    requires { at < length s.now }
+    ensures { result ≡ field (value_at (Letter.byte letter) s.now at) }
+{
+    let v = s[at as usize];
+    if !byte_fits(letter, v) {
+        return Err(Unreadable::BadBody(at));
+    }
+    Ok(v)
 }
 
 // The slots at the end of a body that may carry them: 0 where it ends before.
-pub fn slots_in(s: &[u8], at: usize) -> ByteField
+#[tactic(auto, unfolding(crate::specs::Bodies::slots_at))]
+pub fn slots_in(s: &[u8], at: u8) -> Result<u8, Unreadable>
     requires { at ≤ length s.now }
-    ensures { as_byte at result ≡ slots_at s.now at }
+    ensures { result ≡ field (slots_at s.now at) }
 {
-    if s.len() == at {
-        return ByteField::Is(0);
+    if s.len() == at as usize {
+        return Ok(0);
     }
     byte_in(s, at, Byte::S)
 }
 
-pub fn word_in(s: &[u8], at: usize, letter: Word) -> WordField
+#[tactic(auto, unfolding(crate::specs::Bodies::value_at))]
+pub fn word_in(s: &[u8], at: u8, letter: Word) -> Result<u16, Unreadable>
     requires { at + 2 ≤ length s.now }
-    ensures { as_word at result ≡ value_at (Letter.word letter) s.now at }
+    ensures { result ≡ field (value_at (Letter.word letter) s.now at) }
 {
-    let v = word_at(s, at);
+    let v = word_at(s, at as usize);
     if !word_fits(letter, v) {
-        return WordField::Bad;
+        return Err(Unreadable::BadBody(at));
     }
-    WordField::Is(v)
+    Ok(v)
 }
 
-pub fn long_in(s: &[u8], at: usize, letter: Long) -> LongField
+#[tactic(auto, unfolding(crate::specs::Bodies::value_at))]
+pub fn long_in(s: &[u8], at: u8, letter: Long) -> Result<u32, Unreadable>
     requires { at + 4 ≤ length s.now }
-    ensures { as_long at result ≡ value_at (Letter.long letter) s.now at }
+    ensures { result ≡ field (value_at (Letter.long letter) s.now at) }
 {
-    let v = long_at(s, at);
+    let v = long_at(s, at as usize);
     if !long_fits(letter, v) {
-        return LongField::Bad;
+        return Err(Unreadable::BadBody(at));
     }
-    LongField::Is(v)
-}
-
-// Each stores at a position and answers the next one.
-
-pub fn put_byte(out: &mut [u8], at: usize, v: u8) -> usize
-    requires { at < length out.old }
-    ensures { Stored out.old at (bytes 1 v) result out.new }
-{
-    out[at] = v;
-    at + 1
-}
-
-pub fn put_word(out: &mut [u8], at: usize, v: u16) -> usize
-    requires { at + 2 ≤ length out.old }
-    ensures { Stored out.old at (bytes 2 v) result out.new }
-{
-    let low = (v % 256) as u8;
-    let high = (v / 256 % 256) as u8;
-    out[at] = low;
-    out[at + 1] = high;
-    at + 2
-}
-
-pub fn put_long(out: &mut [u8], at: usize, v: u32) -> usize
-    requires { at + 4 ≤ length out.old }
-    ensures { Stored out.old at (bytes 4 v) result out.new }
-{
-    let next = put_word(out, at, (v % 65536) as u16);
-    put_word(out, next, (v / 65536 % 65536) as u16)
-}
-
-// The head of a record: its length and its kind.
-pub fn put_head(out: &mut [u8], at: usize, size: u16, kind: u16) -> usize
-    requires { at + 4 ≤ length out.old }
-    ensures { Stored out.old at (bytes 2 size ++ bytes 2 kind) result out.new }
-{
-    let next = put_word(out, at, size);
-    put_word(out, next, kind)
+    Ok(v)
 }

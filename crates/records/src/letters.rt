@@ -1,6 +1,6 @@
 // The letters of a record's body, by their width, and the numbers that each may stand for.
 ghost use Rattle.std.specs.Prelude.{◌≡◌};
-ghost use Rattle.records.specs.Letters.{span_of, within, is_timer, is_direct_timer, fits, slots_fit, Letter};
+ghost use Rattle.records.specs.Letters.{is_timer, is_direct_timer, fits, slots_fit, Letter};
 
 // Letters of one byte.
 #[derive(Clone, Copy)]
@@ -59,107 +59,72 @@ pub enum Long {
     A1,
 }
 
-// The least and the most that a letter of one byte may stand for.
-#[derive(Clone, Copy)]
-pub struct Span {
-    pub least: u8,
-    pub most: u8,
-}
-
-fn span_of(letter: Byte) -> Span
-    ensures { result ≡ span_of letter }
-{
-    match letter {
-        Byte::G => Span { least: 0, most: 3 },
-        Byte::D => Span { least: 0, most: 1 },
-        Byte::Q => Span { least: 0, most: 1 },
-        Byte::R => Span { least: 0, most: 1 },
-        Byte::K => Span { least: 0, most: 1 },
-        Byte::O => Span { least: 0, most: 15 },
-        Byte::O16 => Span { least: 0, most: 16 },
-        Byte::C => Span { least: 1, most: 4 },
-        Byte::P => Span { least: 1, most: 4 },
-        Byte::X => Span { least: 0, most: 8 },
-        Byte::S => Span { least: 1, most: 4 },
-        Byte::Y => Span { least: 0, most: 7 },
-        Byte::V => Span { least: 0, most: 2 },
-        Byte::Any => Span {
-            least: 0,
-            most: 255,
-        },
-    }
-}
-
-fn within(least: u32, most: u32, v: u32) -> bool
-    ensures { result ≡ within least most v }
-{
-    if v < least {
-        return false;
-    }
-    v <= most
-}
-
+// Timers of call control.
+#[tactic(auto, unfolding(crate::specs::Letters::is_timer))]
 fn is_timer(v: u16) -> bool
     ensures { result ≡ is_timer v }
 {
-    match v {
-        301 => true,
-        302 => true,
-        303 => true,
-        306 => true,
-        308 => true,
-        310 => true,
-        311 => true,
-        _ => false,
-    }
+    matches!(v, 301 | 302 | 303 | 306 | 308 | 310 | 311)
 }
 
+// Timers of direct mode.
+#[tactic(auto, unfolding(crate::specs::Letters::is_direct_timer))]
 fn is_direct_timer(v: u16) -> bool
     ensures { result ≡ is_direct_timer v }
 {
-    match v {
-        303 => true,
-        311 => true,
-        _ => false,
-    }
+    matches!(v, 303 | 311)
 }
 
 // Whether a letter may stand for a number, at each width.
 
+#[tactic(auto, unfolding(crate::specs::Letters::within))]
 pub fn byte_fits(letter: Byte, v: u8) -> bool
     ensures { result ≡ fits (Letter.byte letter) v }
 {
-    let span = span_of(letter);
-    within(span.least as u32, span.most as u32, v as u32)
+    match letter {
+        Byte::G => matches!(v, 0..=3),
+        Byte::D => matches!(v, 0..=1),
+        Byte::Q => matches!(v, 0..=1),
+        Byte::R => matches!(v, 0..=1),
+        Byte::K => matches!(v, 0..=1),
+        Byte::O => matches!(v, 0..=15),
+        Byte::O16 => matches!(v, 0..=16),
+        Byte::C => matches!(v, 1..=4),
+        Byte::P => matches!(v, 1..=4),
+        Byte::X => matches!(v, 0..=8),
+        Byte::S => matches!(v, 1..=4),
+        Byte::Y => matches!(v, 0..=7),
+        Byte::V => matches!(v, 0..=2),
+        Byte::Any => true,
+    }
 }
 
 // Whether slots at the end of a body may be so: 0 where the body carries none.
 pub fn slots_fit(slots: u8) -> bool
     ensures { result ≡ slots_fit slots }
 {
-    if slots == 0 {
-        return true;
-    }
-    byte_fits(Byte::S, slots)
+    slots == 0 || byte_fits(Byte::S, slots)
 }
 
+#[tactic(auto, unfolding(crate::specs::Letters::within))]
 pub fn word_fits(letter: Word, v: u16) -> bool
     ensures { result ≡ fits (Letter.word letter) v }
 {
     match letter {
-        Word::I => within(1, 16383, v as u32),
-        Word::I0 => within(0, 16383, v as u32),
+        Word::I => matches!(v, 1..=16383),
+        Word::I0 => matches!(v, 0..=16383),
         Word::N => is_timer(v),
-        Word::U => within(0, 65535, v as u32),
+        Word::U => true,
         Word::N2 => is_direct_timer(v),
     }
 }
 
+#[tactic(auto, unfolding(crate::specs::Letters::within))]
 pub fn long_fits(letter: Long, v: u32) -> bool
     ensures { result ≡ fits (Letter.long letter) v }
 {
     match letter {
-        Long::A => within(0, 16777215, v),
-        Long::A1 => within(1, 16777215, v),
+        Long::A => matches!(v, 0..=16777215),
+        Long::A1 => matches!(v, 1..=16777215),
     }
 }

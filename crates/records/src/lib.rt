@@ -4,8 +4,9 @@
 
 pub mod bodies;
 pub mod events;
-mod fields;
+pub mod fields;
 pub mod letters;
-mod lines;
+pub mod lines;
 pub mod message_lines;
 pub mod messages;
+pub mod record;

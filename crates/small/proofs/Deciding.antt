@@ -1,13 +1,12 @@
 -- An event's numbers decide what the event decides.
-use Prim.Native.Nat.{ℕ, zero, suc, ◌<◌}
-use mathlib.Core.Path.{◌≡◌, refl, sym, ◌∙◌, ap, subst}
+use Prim.Native.Nat.{ℕ, zero, suc}
+use mathlib.Core.Path.{◌≡◌, refl, sym, ◌∙◌, ap}
 use mathlib.Core.Bool.{Bool, true, false, cond, true≢false}
 use mathlib.Core.List.{List}
-use borrow.Author.Tests.{eq-eqb, ne_eqb}
+use Rattle.std.proofs.Common.{Option, None, Some}
 use lib.Dec.{eqb}
 use Rattle.records.specs.declared.events.Event.{Event}
 use Rattle.records.specs.Tables.{Read, taken, refused}
-use Rattle.records.proofs.Laws.{by_test}
 use Rattle.callcontrol.specs.declared.call.Call.{Call}
 use Rattle.callcontrol.specs.declared.row.Row.{Row}
 use Rattle.callcontrol.specs.Call.{is_idle, T301, T302, T303, T306, T308, T310, T311}
@@ -17,9 +16,10 @@ use Rattle.callcontrol.specs.Step.{Outcome, refusal, refusal_at, other_call, ove
 use Rattle.small.specs.declared.flat.Flat.{Flat}
 use Rattle.small.specs.Flat.{EXPIRY, EXPIRY_308, EXPIRY_311, EXPIRY_NONE, flat_of, expired_of, late}
 use Rattle.small.specs.Line.{table_row}
-use Rattle.small.proofs.Same.{same, small}
+use Rattle.small.proofs.Same.{same}
 use Rattle.small.specs.Reading.{flatted}
-use Rattle.small.specs.Small.{names_other, over_flat, decided_by}
+use Rattle.small.proofs.Parts.{value_in, number_in, place_in, is_taken}
+use Rattle.small.specs.Small.{names_other, over_flat, with_row, decided_by}
 
 whole : (P : Flat → Type 0) (b : Bool) {x y : Flat} → P x → P y → P (cond b x y)
 whole P true p q = p
@@ -86,11 +86,12 @@ over_is c Event.Break = refl
 over_is c Event.Resume = refl
 over_is c (Event.Expiry n) = expiries (λ f. over_flat f.kind c.plane ≡ false) c n (λ t. refl) (λ t. refl) (λ t. refl) (λ t. refl)
 
-by_row : (c : Call) (r : Row) (b : List ℕ) (over : Bool)
-    → cond (eqb r.orders 0) (refusal 6 c b) (cond over (refusal 8 c b) (carried c (settled c r) b))
-    ≡ cond (draft_of c r).taken (cond over (refusal 8 c b) (carried c (draft_of c r) b)) (refusal 6 c b)
-unfolding draft_of no_row settled
-by_row c r b over = by_test (eqb r.orders 0) (λ z. rw z refl) (λ z. rw z refl)
+by_row : (c : Call) (o : Option Row) (b : List ℕ) (over : Bool)
+    → with_row o (refusal 6 c b) (λ r. cond over (refusal 8 c b) (carried c (settled c r) b))
+    ≡ cond (draft_of c o).taken (cond over (refusal 8 c b) (carried c (draft_of c o) b)) (refusal 6 c b)
+unfolding no_row settled
+by_row c None b over = refl
+by_row c (Some r) b over = refl
 
 pub decided_is : (c : Call) (e : Event) (b : List ℕ) → decided_by c (flat_of c e) b ≡ decided c e b
 unfolding decided_by decided
@@ -102,30 +103,10 @@ decided_is c e b =
 
 -- an event that was read, and a refusal
 
-abbrev event_in : Flat → Read Flat → Flat
-event_in other (taken f) = f
-event_in other (refused n p) = other
-
-abbrev number_in : Read Flat → ℕ
-number_in (taken f) = 0
-number_in (refused n p) = n
-
-abbrev place_in : Read Flat → ℕ
-place_in (taken f) = 0
-place_in (refused n p) = p
-
-abbrev is_taken : Read Flat → Bool
-is_taken (taken f) = true
-is_taken (refused n p) = false
-
 module _ (c : Call) (b : List ℕ) where
   pub read_event : (w : Read Event) (f : Flat) → taken f ≡ flatted c w → decided_by c f b ≡ when_read w c b
-  read_event (taken e) f h = ap (λ (g : Flat). decided_by c g b) (ap (event_in f) h) ∙ decided_is c e b
+  read_event (taken e) f h = ap (λ (g : Flat). decided_by c g b) (ap (value_in f) h) ∙ decided_is c e b
   read_event (refused n p) f h = absurd (true≢false (ap is_taken h))
-
-  pub read_timer : (w : Read Event) (f : Flat) → taken f ≡ flatted c w → f.timer < 7
-  read_timer (taken e) f h = subst (λ (g : Flat). g.timer < 7) (sym (ap (event_in f) h)) (small c e)
-  read_timer (refused n p) f h = absurd (true≢false (ap is_taken h))
 
   pub read_refused : (w : Read Event) (n p : ℕ) → refused n p ≡ flatted c w → refusal_at n p c b ≡ when_read w c b
   read_refused (taken e) n p h = absurd (true≢false (ap is_taken (sym h)))
@@ -140,15 +121,16 @@ module _ (c : Call) (f : Flat) (b : List ℕ) where
   unfolding decided_by
   by_other h = rw h refl
 
-  module _ (r : Row) (agrees : other ≡ false) (row : r ≡ table_row c f) where
-    pub by_none : r.orders ≡ 0 → refusal 6 c b ≡ decided_by c f b
+  module _ (o : Option Row) (agrees : other ≡ false) (row : o ≡ table_row c f) where
+    pub by_none : o ≡ None → refusal 6 c b ≡ decided_by c f b
     unfolding decided_by
-    by_none h = rw (agrees, ← row, eq-eqb _ _ h) refl
+    by_none h = rw (agrees, ← row, h) refl
 
-    pub by_over : (r.orders ≡ 0 → ⊥) → over_flat f.kind c.plane ≡ true → refusal 8 c b ≡ decided_by c f b
-    unfolding decided_by
-    by_over h over = rw (agrees, ← row, ne_eqb _ _ h, over) refl
+    module _ (r : Row) (some : o ≡ Some r) where
+      pub by_over : over_flat f.kind c.plane ≡ true → refusal 8 c b ≡ decided_by c f b
+      unfolding decided_by
+      by_over over = rw (agrees, ← row, some, over) refl
 
-    pub by_orders : (x : Outcome) → (r.orders ≡ 0 → ⊥) → over_flat f.kind c.plane ≡ false → x ≡ carried c (settled c r) b → x ≡ decided_by c f b
-    unfolding decided_by
-    by_orders x h silent k = rw (agrees, ← row, ne_eqb _ _ h, silent) k
+      pub by_orders : (x : Outcome) → over_flat f.kind c.plane ≡ false → x ≡ carried c (settled c r) b → x ≡ decided_by c f b
+      unfolding decided_by
+      by_orders x over e = rw (agrees, ← row, some, over) e

@@ -3,15 +3,17 @@ use Prim.Native.Nat.{ℕ}
 use mathlib.Core.Path.{◌≡◌, refl, ◌∙◌, ap}
 use mathlib.Core.Bool.{cond}
 use mathlib.Core.List.{List, [], ◌∷◌}
-use mathlib.Core.Option.{Option, none, some}
+use Rattle.std.proofs.Common.{Bool, Option, None, Some, Result}
+use mathlib.Core.Option as maybe
 use Rattle.records.specs.declared.events.Event.{Event}
 use Rattle.records.specs.Bodies.{kind_in}
 use Rattle.records.specs.Tables.{Read, taken, refused, or_refuse, read, read_as}
 use Rattle.records.specs.Events.{events}
 use Rattle.callcontrol.specs.declared.call.Call.{Call}
 use Rattle.callcontrol.specs.declared.row.Row.{Row}
+use Rattle.callcontrol.specs.declared.step.Refusal.{Refusal}
 use Rattle.callcontrol.specs.declared.step.Stepped.{Stepped}
-use Rattle.callcontrol.specs.Call.{sound}
+use Rattle.callcontrol.specs.Call.{sound, is_idle}
 use Rattle.callcontrol.specs.Settle.{settled}
 use Rattle.callcontrol.specs.Step.{Outcome, refusal, carried, when_read, step_of, as_outcome}
 use Rattle.callcontrol.proofs.Determined.{step}
@@ -20,26 +22,18 @@ use Rattle.small.specs.declared.flat.Flat.{Flat}
 use Rattle.small.specs.Flat.{flat_of}
 use Rattle.small.specs.Line.{table_row}
 use Rattle.small.specs.Reading.{kind_by, flatted}
-use Rattle.small.specs.Small.{decided_by, carried_by, tabled, when_flat, small_of}
+use Rattle.small.specs.Small.{names_other, over_flat, with_row, decided_by, carried_by, tabled, when_flat, small_of}
 use Rattle.small.specs.Engines.{Engine, Promised, given, Equal, engine_run, Gives, Keeps, RunBy, none, turn, SameStep, TablesAreStep, SameRun, OneRun}
 use Rattle.small.proofs.Carrying.{whole}
 use Rattle.small.proofs.Deciding.{decided_is}
 use Rattle.small.proofs.Entries.{kind_is}
 
 -- two results that one outcome allows
-equal : (o : Outcome) (r₁ r₂ : Stepped) (b₁ b₂ : List ℕ) → as_outcome r₁ b₁ ≡ o → as_outcome r₂ b₂ ≡ o → Equal r₁ r₂ b₁ b₂
-equal o r₁ r₂ b₁ b₂ p q =
-    let w = step o r₁ r₂ b₁ b₂ p q in
-    record {
-      answer = ap (λ (r : Stepped). r.answer) w.0;
-      place = ap (λ (r : Stepped). r.place) w.0;
-      call = ap (λ (r : Stepped). r.call) w.0;
-      count = ap (λ (r : Stepped). r.count) w.0;
-      buffer = w.1;
-    }
+equal : (c : Call) (o : Outcome) (r₁ r₂ : Result Stepped Refusal) (b₁ b₂ : List ℕ) → as_outcome c r₁ b₁ ≡ o → as_outcome c r₂ b₂ ≡ o → Equal r₁ r₂ b₁ b₂
+equal c o r₁ r₂ b₁ b₂ p q = let w = step c o r₁ r₂ b₁ b₂ p q in record { result = w.0; buffer = w.1 }
 
 pub same_step : SameStep
-same_step first second p q c event buffer = equal (step_of c event buffer) _ _ _ _ (p c event buffer) (q c event buffer)
+same_step first second p q c event buffer = equal c (step_of c event buffer) _ _ _ _ (p c event buffer) (q c event buffer)
 
 -- by the tables
 
@@ -47,17 +41,22 @@ carried_is : (c : Call) (r : Row) (b : List ℕ) → carried_by c r b ≡ carrie
 unfolding carried_by carried
 carried_is c r b = rw (whole c r) refl
 
+with_is : (o : Option Row) (over : Bool) (c : Call) (b : List ℕ)
+    → with_row o (refusal 6 c b) (λ r. cond over (refusal 8 c b) (carried_by c r b)) ≡ with_row o (refusal 6 c b) (λ r. cond over (refusal 8 c b) (carried c (settled c r) b))
+with_is None over c b = refl
+with_is (Some r) over c b = rw (carried_is c r b) refl
+
 tabled_is : (c : Call) (f : Flat) (b : List ℕ) → tabled c f b ≡ decided_by c f b
 unfolding tabled decided_by
-tabled_is c f b = rw (carried_is c (table_row c f) b) refl
+tabled_is c f b = ap (λ (o : Outcome). cond (names_other f.kind f.id c.id (is_idle c)) (refusal 5 c b) o) (with_is (table_row c f) (over_flat f.kind c.plane) c b)
 
 flat_is : (w : Read Event) (c : Call) (b : List ℕ) → when_flat (flatted c w) c b ≡ when_read w c b
 flat_is (taken e) c b = tabled_is c (flat_of c e) b ∙ decided_is c e b
 flat_is (refused n p) c b = refl
 
-head_is : (h : Option ℕ) (c : Call) (s : List ℕ) → or_refuse 2 h (λ n. kind_by n c s) ≡ flatted c (or_refuse 2 h (λ n. read_as events n s))
-head_is none c s = refl
-head_is (some n) c s = kind_is n c s
+head_is : (h : maybe.Option ℕ) (c : Call) (s : List ℕ) → or_refuse 2 h (λ n. kind_by n c s) ≡ flatted c (or_refuse 2 h (λ n. read_as events n s))
+head_is maybe.none c s = refl
+head_is (maybe.some n) c s = kind_is n c s
 
 read_is : (c : Call) (s : List ℕ) → or_refuse 2 (kind_in s) (λ n. kind_by n c s) ≡ flatted c (read events s)
 unfolding read
@@ -94,4 +93,4 @@ unfolding outcome
 one_run first second p q c one other ts r s =
     let x = record_by first p r in
     let y = record_by second q s in
-    (x, y, λ t r₁ r₂ b₁ b₂ g h. equal (outcome (run c ts) t) r₁ r₂ b₁ b₂ (rw x at (p one t r₁ b₁ g)) (rw y at (q other t r₂ b₂ h)))
+    (x, y, λ t r₁ r₂ b₁ b₂ g h. equal (run c ts) (outcome (run c ts) t) r₁ r₂ b₁ b₂ (rw x at (p one t r₁ b₁ g)) (rw y at (q other t r₂ b₂ h)))

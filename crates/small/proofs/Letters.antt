@@ -1,6 +1,6 @@
 -- The letters of an entry, one after the other.
 use Prim.Native.Nat.{ℕ, zero, suc, ◌+◌, ◌*◌, ◌/◌, ◌%◌, ◌<◌, ◌≤◌}
-use mathlib.Core.Path.{◌≡◌, refl, ap}
+use mathlib.Core.Path.{◌≡◌, refl, ap, ◌∙◌}
 use mathlib.Core.Bool.{Bool, true, false, cond}
 use mathlib.Core.List.{List, [], ◌∷◌}
 use native.Mathlib.Omega.{arith}
@@ -10,7 +10,7 @@ use lib.ListN.{length, length-append, get_or}
 use lib.Seq.{length-sets}
 use Rattle.records.specs.Bytes.{bytes}
 use Rattle.records.specs.Bodies.{Stored}
-use Rattle.records.proofs.Laws.{both, length-bytes, stored_then}
+use Rattle.records.proofs.Laws.{by_test, both, length-bytes, stored_then}
 use Rattle.small.specs.Entry.{width_of, spell, spelled, body, entry_bytes}
 
 abbrev power : ℕ → ℕ
@@ -32,30 +32,48 @@ first_of k n h some =
     let rest : spell k (n / 16) ≡ spell (suc k) (n / 16) = enough k (n / 16) (omega arith) in
     rw (ne_eqb n 0 (λ z. absurd (omega arith))) (ap (λ (r : List ℕ). n % 16 ∷ r) rest)
 
--- a message has four letters at most, an event five
-first : (n : ℕ) → n < 0x10000 → 0 < n → spell 4 n ≡ n % 16 ∷ spell 4 (n / 16)
-first n h some = first_of 3 n h some
+pub first_of_eight : (n : ℕ) → n < 0x100000000 → 0 < n → spell 8 n ≡ n % 16 ∷ spell 8 (n / 16)
+first_of_eight n h some = first_of 7 n h some
 
-pub first_of_five : (n : ℕ) → n < 0x100000 → 0 < n → spell 5 n ≡ n % 16 ∷ spell 5 (n / 16)
-first_of_five n h some = first_of 4 n h some
+-- a message has four letters at most, an event five
+pub four : (n : ℕ) → n < 0x10000 → spell 4 n ≡ spell 8 n
+four n h = enough 4 n h ∙ enough 5 n (omega arith) ∙ enough 6 n (omega arith) ∙ enough 7 n (omega arith)
+
+pub five : (n : ℕ) → n < 0x100000 → spell 5 n ≡ spell 8 n
+five n h = enough 5 n h ∙ enough 6 n (omega arith) ∙ enough 7 n (omega arith)
 
 pub no_letters : (k n : ℕ) → n ≡ 0 → spell k n ≡ []
 unfolding spell
 no_letters zero n h = refl
 no_letters (suc k) n h = rw (eq-eqb n 0 h) refl
 
-pub a_letter : (n : ℕ) → n < 0x10000 → 0 < n → spelled (spell 4 n) ≡ true → (n % 16 < 10) × (spelled (spell 4 (n / 16)) ≡ true)
+-- each is a digit
+first_small : (k n : ℕ) → get_or (spell k n) 0 0 < 16
+unfolding spell
+first_small zero n = omega arith
+first_small (suc k) n = by_test (eqb n 0) (λ z. rw z (omega arith)) (λ z. rw z (omega arith))
+
+pub small_letter : (k n l : ℕ) (ls : List ℕ) → spell k n ≡ l ∷ ls → l < 16
+small_letter k n l ls e =
+    let first : get_or (spell k n) 0 0 ≡ l = ap (λ (xs : List ℕ). get_or xs 0 0) e in
+    omega (arith, first, first_small k n)
+
+-- each is a letter
+pub a_letter : (l : ℕ) (ls : List ℕ) → spelled (l ∷ ls) ≡ true → (l < 10) × (spelled ls ≡ true)
 unfolding spelled
-a_letter n h some ok =
-    let w = both _ _ (rw (first n h some) at ok) in
+a_letter l ls ok =
+    let w = both _ _ ok in
     (ltb-true _ _ w.0, w.1)
 
 -- a letter's bytes, and those of the rest
-pub one_letter : {old mid new : List ℕ} {at next end : ℕ} (n : ℕ) (v : List ℕ) → n < 0x10000 → 0 < n
-    → Stored old at (bytes (width_of (n % 16)) (get_or v (n % 16) 0)) next mid → Stored mid next (body (spell 4 (n / 16)) v) end new
-    → Stored old at (body (spell 4 n) v) end new
+pub one_letter : {old mid new : List ℕ} {at next end : ℕ} (l : ℕ) (ls v : List ℕ)
+    → Stored old at (bytes (width_of l) (get_or v l 0)) next mid → Stored mid next (body ls v) end new → Stored old at (body (l ∷ ls) v) end new
 unfolding body
-one_letter n v h some p q = rw (first n h some) (stored_then p q)
+one_letter l ls v p q = stored_then p q
+
+pub letter_length : (l : ℕ) (ls v : List ℕ) → length (body (l ∷ ls) v) ≡ width_of l + length (body ls v)
+unfolding body
+letter_length l ls v = length-append (bytes (width_of l) (get_or v l 0)) (body ls v) ∙ rw (length-bytes (width_of l) (get_or v l 0)) refl
 
 -- they are few
 
@@ -73,7 +91,7 @@ few false l k rest v h =
     omega
     (arith, length-append (bytes (width_of l) (get_or v l 0)) (body rest v), length-bytes (width_of l) (get_or v l 0), width_small (eqb l 0) (eqb l 1) (eqb l 2) (eqb l 6))
 
-body_small : (k n : ℕ) (v : List ℕ) → length (body (spell k n) v) ≤ 4 * k
+pub body_small : (k n : ℕ) (v : List ℕ) → length (body (spell k n) v) ≤ 4 * k
 unfolding body spell
 body_small zero n v = omega arith
 body_small (suc k) n v = few (eqb n 0) (n % 16) k (spell k (n / 16)) v (body_small k (n / 16) v)

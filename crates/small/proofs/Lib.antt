@@ -6,6 +6,7 @@ pub mod Entries
 pub mod Engines
 pub mod Letters
 pub mod Own
+pub mod Parts
 pub mod Places
 pub mod Same
 pub mod Scan

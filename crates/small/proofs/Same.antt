@@ -1,11 +1,11 @@
 -- The row that the table gives is the one of the definitions.
-use Prim.Native.Nat.{ℕ, ◌+◌, ◌<◌}
+use Prim.Native.Nat.{ℕ, ◌+◌}
 use mathlib.Core.Path.{◌≡◌, refl, sym, ◌∙◌, ap, subst}
 use mathlib.Core.Bool.{Bool, true, false, cond, not, ◌&&◌, ◌||◌}
 use lib.Dec.{T, eqb, eqb→eq}
 use lib.ListN.{set}
+use Rattle.std.proofs.Common.{None, Some}
 use native.Mathlib.Nat.{add-zero}
-use native.Mathlib.Omega.{arith}
 use Rattle.records.specs.declared.events.Event.{Event}
 use Rattle.records.specs.declared.messages.Message.{Message}
 use Rattle.callcontrol.specs.declared.call.Call.{Call}
@@ -17,7 +17,7 @@ use Rattle.callcontrol.specs.Rows.{idle, mo_call_setup, mt_call_setup, demands, 
 use Rattle.callcontrol.specs.Rows.{in_state as state_row}
 use Rattle.callcontrol.specs.Settle.{draft_of, row_of, STAY, CANCEL, STOP_303, RELEASE_CONFIRM, RELEASE_INDICATION, OVER, U_CONNECT, START_301, restarting, code_after, slots_after}
 use Rattle.callcontrol.proofs.Verbs.{verbs}
-use Rattle.callcontrol.proofs.Settled.{numbers, none_is, releasing_is, released_is, disconnected_is, timed_out_301_is, timed_out_302_is, timed_out_303_is, timed_out_306_is, timed_out_310_is, setup_request_is, d_setup_is, proceeding_is, alert_is, connected_is, reported_is, acknowledged_is, demanded_is, ceased_is, withdrawn_is, informed_same_is, informed_other_is, granted_is, tx_ceased_is, interrupted_for_is, interrupted_is, paused_is, cut_is, spoken_out_is, reasked_is, resumed_is, restored_is, broken_again_is, continued_is, continued_off_is, pause_cut_is, disconnected_unsent_is, released_unsent_is, confirmed_is, confirmed_late_is}
+use Rattle.callcontrol.proofs.Settled.{numbers, releasing_is, released_is, disconnected_is, timed_out_301_is, timed_out_302_is, timed_out_303_is, timed_out_306_is, timed_out_310_is, setup_request_is, d_setup_is, proceeding_is, alert_is, connected_is, reported_is, acknowledged_is, demanded_is, ceased_is, withdrawn_is, informed_same_is, informed_other_is, granted_is, tx_ceased_is, interrupted_for_is, interrupted_is, paused_is, cut_is, spoken_out_is, reasked_is, resumed_is, restored_is, broken_again_is, continued_is, continued_off_is, pause_cut_is, disconnected_unsent_is, released_unsent_is, confirmed_is, confirmed_late_is}
 use Rattle.small.specs.declared.flat.Flat.{Flat}
 use Rattle.small.specs.Flat.{SETUP_RESPONSE, RELEASE_REQUEST, TX_REQUEST, D_CONNECT_ACKNOWLEDGE, D_INFO, D_TX_INTERRUPT, D_TX_CONTINUE, D_DISCONNECT, D_RELEASE, REPORT_SENT, REPORT_FAILED, EXPIRY, EXPIRY_308, EXPIRY_311, EXPIRY_NONE, late, flat_of, expired_of, bare, named, flat}
 use Rattle.small.specs.Table.{AT_IDLE, AT_MO, AT_MT, AT_UP, AT_BROKEN, AT_RESTORING, AT_WAIT, AT_DISCONNECT, on_path, in_state, facts_of, fits, first_of, rows}
@@ -87,20 +87,23 @@ unfolding expiry
 no_timer c n e301 e302 e303 e306 e310 = rw (e301, e302, e303, e306, e310) refl
 
 -- a row with a plane and no more
-end0 : (c : Call) (x i a m q o s v : ℕ) (d : Draft) → draft_of c (record { orders = x; id = i; address = a; mode = m; asked = q; code = o; slots = s; value = v }) ≡ d → draft_of c (record { orders = x + 0; id = i; address = a; mode = m; asked = q; code = o; slots = s; value = v }) ≡ d
+end0 : (c : Call) (x i a m q o s v : ℕ) (d : Draft) → draft_of c (Some (record { orders = x; id = i; address = a; mode = m; asked = q; code = o; slots = s; value = v })) ≡ d → draft_of c (Some (record { orders = x + 0; id = i; address = a; mode = m; asked = q; code = o; slots = s; value = v })) ≡ d
 end0 c x i a m q o s v d p = rw (add-zero x) p
+
+none_is : (c : Call) → draft_of c None ≡ no_row c
+none_is c = refl
 
 -- rows that Settled says with their guard
 
-takes_back_is : (c : Call) → draft_of c (row_of c (CANCEL + STOP_303 + RELEASE_CONFIRM + OVER) 0) ≡ draft c ▷ cancel ▷ stop T303 ▷ tell Message.ReleaseConfirm ▷ over
+takes_back_is : (c : Call) → draft_of c (Some (row_of c (CANCEL + STOP_303 + RELEASE_CONFIRM + OVER) 0)) ≡ draft c ▷ cancel ▷ stop T303 ▷ tell Message.ReleaseConfirm ▷ over
 unfolding verbs numbers
 takes_back_is c = refl
 
-fails_is : (c : Call) → draft_of c (row_of c (STOP_303 + RELEASE_INDICATION + OVER) 4) ≡ draft c ▷ stop T303 ▷ tell (Message.ReleaseIndication 4) ▷ over
+fails_is : (c : Call) → draft_of c (Some (row_of c (STOP_303 + RELEASE_INDICATION + OVER) 4)) ≡ draft c ▷ stop T303 ▷ tell (Message.ReleaseIndication 4) ▷ over
 unfolding verbs numbers
 fails_is c = refl
 
-answers_is : (c : Call) → draft_of c (row_of c (STAY + U_CONNECT + START_301) 0) ≡ draft c ▷ say (Message.UConnect c.id) ▷ start T301
+answers_is : (c : Call) → draft_of c (Some (row_of c (STAY + U_CONNECT + START_301) 0)) ≡ draft c ▷ say (Message.UConnect c.id) ▷ start T301
 unfolding verbs numbers
 answers_is c = refl
 
@@ -334,37 +337,6 @@ in_state_lem State.MtCallSetup c e = in_mt c e
 in_state_lem State.CallActive c e = in_path c.path c e
 in_state_lem State.Wait c e = in_wait c e
 in_state_lem State.CallDisconnect c e = in_disconnect c e
-
--- an event's timer is one of the seven
-whole : (P : Flat → Type 0) (b : Bool) {x y : Flat} → P x → P y → P (cond b x y)
-whole P true p q = p
-whole P false p q = q
-
-pub small : (c : Call) (e : Event) → (flat_of c e).timer < 7
-unfolding flat_of expired_of
-small c (Event.SetupRequest a d q s) = omega arith
-small c Event.SetupResponse = omega arith
-small c Event.ReleaseRequest = omega arith
-small c (Event.TxRequest k) = omega arith
-small c (Event.DCallProceeding i) = omega arith
-small c (Event.DAlert i) = omega arith
-small c (Event.DConnect i g d o s) = omega arith
-small c (Event.DConnectAcknowledge i g o) = omega arith
-small c (Event.DSetup i a d) = omega arith
-small c (Event.DInfo i r o d s) = omega arith
-small c (Event.DTxGranted i g) = omega arith
-small c (Event.DTxCeased i) = omega arith
-small c (Event.DTxInterrupt i g) = omega arith
-small c (Event.DTxWait i) = omega arith
-small c (Event.DTxContinue i k) = omega arith
-small c (Event.DCallRestore i g r o) = omega arith
-small c (Event.DDisconnect i) = omega arith
-small c (Event.DRelease i) = omega arith
-small c Event.ReportSent = omega arith
-small c Event.ReportFailed = omega arith
-small c Event.Break = omega arith
-small c Event.Resume = omega arith
-small c (Event.Expiry n) = whole (λ f. f.timer < 7) (eqb n 311) (omega arith) (whole (λ f. f.timer < 7) (eqb n 308) (omega arith) (whole (λ f. f.timer < 7) (eqb n 301) (omega arith) (whole (λ f. f.timer < 7) (eqb n 302) (omega arith) (whole (λ f. f.timer < 7) (eqb n 303) (omega arith) (whole (λ f. f.timer < 7) (eqb n 306) (omega arith) (whole (λ f. f.timer < 7) (eqb n 310) (omega arith) (omega arith)))))))
 
 -- the table's row is the definitions' row
 pub same : (c : Call) (e : Event) → draft_of c (table_row c (flat_of c e)) ≡ row_for c e

@@ -1,36 +1,18 @@
--- A table that is searched from a place on.
-use mathlib.Core.Path.{◌≡◌, refl}
-use mathlib.Core.Bool.{Bool, true, cond, ◌&&◌}
-use mathlib.Core.List.{List, [], ◌∷◌}
-use Prim.Native.Nat.{ℕ, zero, suc, ◌+◌, ◌/◌, ◌%◌, ◌<◌, ◌≤◌}
-use native.Mathlib.Nat.{le_of_suc-le-suc, not-suc-le-zero}
-use native.Mathlib.Omega.{arith}
-use borrow.Author.Tests.{ne_eqb, leb-true}
-use lib.Dec.{leb}
-use lib.ListN.{length, get_or}
-use Rattle.records.proofs.Laws.{both}
-use Rattle.small.specs.Table.{fits, first_of}
+-- The table as it is searched: its rows in the order of the events, and each orders something.
+use Rattle.std.proofs.Common.{◌≡◌, refl, ◌∙◌, ℕ, zero, suc, ◌+◌, ◌/◌, ◌%◌, ◌≤◌, Bool, true, ◌&&◌, List, [], ◌∷◌, leb, ltb, find, drop, Option, Some, None, IfSome, arith}
+use Rattle.std.specs.Option.{unwrap_or}
+use borrow.Author.Tests.{ne_eqb, leb-true, ltb-true}
+use Rattle.records.proofs.Laws.{both, by_test}
+use Rattle.callcontrol.specs.declared.call.Call.{Call}
+use Rattle.small.specs.declared.flat.Flat.{Flat}
+use Rattle.small.specs.Line.{row_by, row_or, table_row}
+use Rattle.small.specs.Table.{situation_of, facts_of, fits, first_of, rows}
 
-abbrev pub after : ℕ → List ℕ → List ℕ
-after zero ns = ns
-after (suc k) [] = []
-after (suc k) (n ∷ ns) = after k ns
-
--- the row at a place is the first of those from there on
-pub here : (s k : ℕ) (fs : List Bool) (i : ℕ) (ns : List ℕ) → i < length ns → first_of s k fs (after i ns) ≡ cond (fits s k fs (get_or ns i 0)) (get_or ns i 0) (first_of s k fs (after (suc i) ns))
+-- the search as the library's, 0 for none
+pub first_is : (s k : ℕ) (fs : List Bool) (ns : List ℕ) → first_of s k fs ns ≡ unwrap_or (find (fits s k fs) ns) 0
 unfolding first_of
-here s k fs zero [] h = absurd (not-suc-le-zero h)
-here s k fs zero (n ∷ ns) h = refl
-here s k fs (suc i) [] h = absurd (not-suc-le-zero h)
-here s k fs (suc i) (n ∷ ns) h = here s k fs i ns (le_of_suc-le-suc h)
-
--- behind the last there is none
-pub none_after : (s k : ℕ) (fs : List Bool) (i : ℕ) (ns : List ℕ) → length ns ≤ i → first_of s k fs (after i ns) ≡ 0
-unfolding first_of
-none_after s k fs zero [] h = refl
-none_after s k fs zero (n ∷ ns) h = absurd (not-suc-le-zero h)
-none_after s k fs (suc i) [] h = refl
-none_after s k fs (suc i) (n ∷ ns) h = none_after s k fs i ns (le_of_suc-le-suc h)
+first_is s k fs [] = refl
+first_is s k fs (n ∷ ns) = by_test (fits s k fs n) (λ t. rw t refl) (λ f. rw f (first_is s k fs ns))
 
 -- no row is of an event that is above its place
 unfoldable pub above : ℕ → List ℕ → Bool
@@ -38,8 +20,8 @@ above p [] = true
 above p (n ∷ ns) = leb (n / 0x100000000000000 % 32) p && above (suc p) ns
 
 -- so the search may begin at the place of the event's number
-pub skipped : (s k : ℕ) (fs : List Bool) (p i : ℕ) (ns : List ℕ) → above p ns ≡ true → p + i ≤ k → first_of s k fs (after i ns) ≡ first_of s k fs ns
-unfolding first_of above fits
+pub skipped : (s k : ℕ) (fs : List Bool) (p i : ℕ) (ns : List ℕ) → above p ns ≡ true → p + i ≤ k → find (fits s k fs) (drop i ns) ≡ find (fits s k fs) ns
+unfolding above fits
 skipped s k fs p zero ns t h = refl
 skipped s k fs p (suc i) [] t h = refl
 skipped s k fs p (suc i) (n ∷ ns) t h =
@@ -47,19 +29,34 @@ skipped s k fs p (suc i) (n ∷ ns) t h =
     let low : n / 0x100000000000000 % 32 ≤ p = leb-true _ _ parts.0 in
     rw (ne_eqb (n / 0x100000000000000 % 32) k (λ z. absurd (omega (arith, low)))) (skipped s k fs (suc p) i ns parts.1 (omega arith))
 
-pub past_end : (ns : List ℕ) (i : ℕ) → length ns ≤ i → get_or ns i 0 ≡ 0
-past_end [] i h = refl
-past_end (n ∷ ns) zero h = absurd (not-suc-le-zero h)
-past_end (n ∷ ns) (suc i) h = past_end ns i (le_of_suc-le-suc h)
+-- no row is 0
+unfoldable pub each : (ℕ → Bool) → List ℕ → Bool
+each q [] = true
+each q (n ∷ ns) = q n && each q ns
 
--- what is none of the first numbers
-abbrev pub Not : ℕ → ℕ → Type 0
-Not zero k = Unit {0}
-Not (suc n) k = Not n k × (k ≡ n → ⊥)
+among : (p q : ℕ → Bool) (ns : List ℕ) (o : Option ℕ) → each q ns ≡ true → o ≡ find p ns → IfSome o (λ n. q n ≡ true)
+unfolding each
+among p q [] o t h = rw h tt
+among p q (n ∷ ns) o t h =
+    let parts = both (q n) (each q ns) t in
+    by_test (p n) (λ y. rw (h, y) parts.0) (λ z. among p q ns o parts.1 (h ∙ rw z refl))
 
-next : (n k : ℕ) → n ≤ k → (k ≡ n → ⊥) → suc n ≤ k
-next n k h d = omega arith
+every : (s k : ℕ) (fs : List Bool) → find (fits s k fs) (drop k rows) ≡ find (fits s k fs) rows
+unfolding rows above
+every s k fs = skipped s k fs 0 k rows refl (omega arith)
 
-pub not_below : (n k : ℕ) → Not n k → n ≤ k
-not_below zero k r = omega arith
-not_below (suc n) k r = next n k (not_below n k r.0) r.1
+module _ (c : Call) (f : Flat) (s : ℕ) (fs : List Bool) (o : Option ℕ) (situation : s ≡ situation_of c) (facts : fs ≡ facts_of c f) (is : o ≡ find (fits s f.kind fs) (drop f.kind rows)) where
+  found_is : first_of (situation_of c) f.kind (facts_of c f) rows ≡ unwrap_or o 0
+  found_is = rw (is, situation, facts) (first_is (situation_of c) f.kind (facts_of c f) rows ∙ rw (every (situation_of c) f.kind (facts_of c f)) refl)
+
+  more : IfSome o (λ n. ltb 0 n ≡ true)
+  unfolding rows each
+  more = among (fits s f.kind fs) (λ n. ltb 0 n) rows o refl (is ∙ every s f.kind fs)
+
+  pub no_row_fits : o ≡ None → None ≡ table_row c f
+  unfolding table_row row_or
+  no_row_fits h = rw (found_is, h) refl
+
+  pub row_fits : (n : ℕ) → o ≡ Some n → Some (row_by n c f) ≡ table_row c f
+  unfolding table_row row_or
+  row_fits n h = rw (found_is, h, ne_eqb n 0 (λ z. absurd (omega (arith, z, ltb-true 0 n (rw h at more))))) refl

@@ -1,20 +1,18 @@
 -- Slots that hold no more than each may, and one letter after the other into them.
-use Prim.Native.Nat.{ℕ, zero, suc, ◌+◌, ◌-◌, ◌/◌, ◌%◌, ◌<◌, ◌≤◌}
+use Prim.Native.Nat.{ℕ, zero, suc, ◌+◌, ◌-◌, ◌%◌, ◌<◌, ◌≤◌}
 use mathlib.Core.Path.{◌≡◌, refl}
 use mathlib.Core.Bool.{◌&&◌}
 use mathlib.Core.List.{List, [], ◌∷◌}
 use native.Mathlib.Omega.{arith}
-use borrow.Author.Tests.{ne_eqb, le-leb, lt-leb, ltb-true, leb-true, eqb-true}
+use borrow.Author.Tests.{le-leb, lt-leb, ltb-true, leb-true, eqb-true}
 use lib.Dec.{leb, ltb, eqb}
 use lib.ListN.{get_or, set}
 use Rattle.records.specs.Bytes.{number}
 use Rattle.records.specs.Letters.{within}
-use Rattle.records.specs.Bodies.{Found}
+use Rattle.records.specs.Bodies.{Found, is, bad_at}
 use Rattle.records.proofs.Laws.{both}
-use Rattle.small.specs.Entry.{spell}
-use Rattle.small.proofs.Letters.{first_of_five}
 use Rattle.small.proofs.Places.{at_entry}
-use Rattle.small.specs.Reading.{letters, width_in, least_in, most_in, slot_in, fill_by, fill, total, caps, Under, as_filled}
+use Rattle.small.specs.Reading.{letters, width_in, least_in, most_in, slot_in, fill_by, fill, total, caps, Under}
 
 pub under_at : (vs cs : List ℕ) → Under vs cs → (j : ℕ) → get_or vs j 0 ≤ get_or cs j 0
 under_at [] cs u j = omega arith
@@ -47,23 +45,26 @@ a_letter k h =
 
 -- the first letter, and the rest
 
-pub fill_first : (n : ℕ) (v s : List ℕ) (at : ℕ) → n < 0x100000 → 0 < n
-    → fill (spell 5 n) v s at ≡ fill_by (get_or letters (n % 16) 0) v s at (λ w next. fill (spell 5 (n / 16)) w s next)
-unfolding fill
-fill_first n v s at h some = rw (first_of_five n h some) refl
-
-pub total_first : (n : ℕ) → n < 0x100000 → 0 < n → total (spell 5 n) ≡ width_in (get_or letters (n % 16) 0) + total (spell 5 (n / 16))
+pub total_first : (l : ℕ) (ls : List ℕ) → total (l ∷ ls) ≡ width_in (get_or letters l 0) + total ls
 unfolding total
-total_first n h some = rw (first_of_five n h some) refl
+total_first l ls = refl
+
+pub filled_first : (l : ℕ) (ls v s : List ℕ) (at : ℕ) → fill_by (get_or letters l 0) v s at (λ w next. fill ls w s next) ≡ fill (l ∷ ls) v s at
+unfolding fill
+filled_first l ls v s at = refl
+
+pub none_to_fill : (ls v s : List ℕ) (at : ℕ) → ls ≡ [] → fill ls v s at ≡ is v
+unfolding fill
+none_to_fill ls v s at h = rw h refl
 
 module _ (e : ℕ) (v s : List ℕ) (at x : ℕ) (rest : List ℕ → ℕ → Found (List ℕ)) (value : x ≡ number (width_in e) s at) where
-  pub too_low : 4 ≤ at → x < least_in e → as_filled at v ≡ fill_by e v s at rest
+  pub too_low : x < least_in e → bad_at at ≡ fill_by e v s at rest
   unfolding fill_by within
-  too_low h low = rw (← value, lt-leb _ _ low, ne_eqb at 0 (λ z. absurd (omega arith))) refl
+  too_low low = rw (← value, lt-leb _ _ low) refl
 
-  pub too_high : 4 ≤ at → least_in e ≤ x → most_in e < x → as_filled at v ≡ fill_by e v s at rest
+  pub too_high : least_in e ≤ x → most_in e < x → bad_at at ≡ fill_by e v s at rest
   unfolding fill_by within
-  too_high h low high = rw (← value, le-leb _ _ low, lt-leb _ _ high, ne_eqb at 0 (λ z. absurd (omega arith))) refl
+  too_high low high = rw (← value, le-leb _ _ low, lt-leb _ _ high) refl
 
   pub in_range_lem : least_in e ≤ x → x ≤ most_in e → fill_by e v s at rest ≡ rest (set v (slot_in e) x) (at + width_in e)
   unfolding fill_by within

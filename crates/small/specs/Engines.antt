@@ -1,7 +1,8 @@
 -- What holds of both engines, as types: `step` of callcontrol and `small_step` here keep one promise, so they are one step, and a run of
 -- the one is the run of the other. proofs/Engines has a proof of each.
-use Rattle.std.specs.Prelude.{ℕ, ◌≡◌, List, [], ◌∷◌}
+use Rattle.std.specs.Prelude.{ℕ, ◌≡◌, List, [], ◌∷◌, Result}
 use Rattle.callcontrol.specs.declared.call.Call.{Call}
+use Rattle.callcontrol.specs.declared.step.Refusal.{Refusal}
 use Rattle.callcontrol.specs.declared.step.Stepped.{Stepped}
 use Rattle.callcontrol.specs.Step.{Outcome, step_of, as_outcome}
 use Rattle.demands.specs.Runs.{Turn, outcome, run}
@@ -9,23 +10,20 @@ use Rattle.small.specs.Small.{small_of}
 
 -- an engine: what it returns for a record, an event's bytes and a lent buffer, and the buffer then
 abbrev pub Engine : Type 0
-Engine = Call → List ℕ → List ℕ → Stepped × List ℕ
+Engine = Call → List ℕ → List ℕ → Result Stepped Refusal × List ℕ
 
 abbrev pub given : Engine → Call → Turn → Outcome
-given f c t = as_outcome (f c t.event t.buffer).0 (f c t.event t.buffer).1
+given f c t = as_outcome c (f c t.event t.buffer).0 (f c t.event t.buffer).1
 
 -- the promise of `step`, and of `small_step`, word for word
 abbrev pub Promised : Engine → Type 0
-Promised f = (c : Call) (event buffer : List ℕ) → as_outcome (f c event buffer).0 (f c event buffer).1 ≡ step_of c event buffer
+Promised f = (c : Call) (event buffer : List ℕ) → as_outcome c (f c event buffer).0 (f c event buffer).1 ≡ step_of c event buffer
 
-pub record Equal (r₁ r₂ : Stepped) (b₁ b₂ : List ℕ) : Type 0 where
-  pub answer : r₁.answer ≡ r₂.answer
-  pub place : r₁.place ≡ r₂.place
-  pub call : r₁.call ≡ r₂.call
-  pub count : r₁.count ≡ r₂.count
+pub record Equal (r₁ r₂ : Result Stepped Refusal) (b₁ b₂ : List ℕ) : Type 0 where
+  pub result : r₁ ≡ r₂
   pub buffer : b₁ ≡ b₂
 
--- for every record, event and buffer both engines give the same answer, place, record, count and buffer
+-- for every record, event and buffer both engines give the same refusal with its place, or the same record and count, and the same buffer
 abbrev pub SameStep : Type 0
 SameStep =
     (first second : Engine) → Promised first → Promised second → (c : Call) (event buffer : List ℕ) →
@@ -49,16 +47,16 @@ SameRun =
 
 -- what an engine may give for a record and a turn: a result, and the buffer then
 abbrev pub Gives : Type 1
-Gives = Call → Turn → Stepped → List ℕ → Type 0
+Gives = Call → Turn → Result Stepped Refusal → List ℕ → Type 0
 
 -- it gives nothing but what the promise of `step`, and of `small_step`, allows
 abbrev pub Keeps : Gives → Type 0
-Keeps g = (c : Call) (t : Turn) (r : Stepped) (b : List ℕ) → g c t r b → as_outcome r b ≡ step_of c t.event t.buffer
+Keeps g = (c : Call) (t : Turn) (r : Result Stepped Refusal) (b : List ℕ) → g c t r b → as_outcome c r b ≡ step_of c t.event t.buffer
 
 -- some turns from a record on, in each anything that may be given, and the record that the last of them gave
 pub data RunBy (g : Gives) : Call → List Turn → Call → Type 0 where
   none : {c : Call} → RunBy g c [] c
-  turn : {c last : Call} {t : Turn} {ts : List Turn} {r : Stepped} {b : List ℕ} → g c t r b → RunBy g r.call ts last → RunBy g c (t ∷ ts) last
+  turn : {c last : Call} {t : Turn} {ts : List Turn} {r : Result Stepped Refusal} {b : List ℕ} → g c t r b → RunBy g (as_outcome c r b).call ts last → RunBy g c (t ∷ ts) last
 
 -- whatever either engine gives, turn after turn, the run of the second is the run of the first, and both are the step's: after any turns the
 -- same record, and in any turn after them the same answer, place, record, count and buffer
@@ -66,4 +64,4 @@ abbrev pub OneRun : Type 1
 OneRun =
     (first second : Gives) → Keeps first → Keeps second → (c one other : Call) (ts : List Turn) → RunBy first c ts one → RunBy second c ts other →
     (one ≡ run c ts) × (other ≡ run c ts)
-    × ((t : Turn) (r₁ r₂ : Stepped) (b₁ b₂ : List ℕ) → first one t r₁ b₁ → second other t r₂ b₂ → Equal r₁ r₂ b₁ b₂)
+    × ((t : Turn) (r₁ r₂ : Result Stepped Refusal) (b₁ b₂ : List ℕ) → first one t r₁ b₁ → second other t r₂ b₂ → Equal r₁ r₂ b₁ b₂)

@@ -6,6 +6,7 @@ use Rattle.records.specs.declared.events.Event.TheVariants.{SetupRequest, SetupR
 use Rattle.callcontrol.specs.declared.call.Call.{Call}
 use Rattle.callcontrol.specs.Call.{T301, T302, T303, T306, T308, T310, T311}
 use Rattle.small.specs.declared.flat.Flat.{Flat}
+use Rattle.small.specs.declared.flat.Timer.{Timer}
 
 -- the events by number, in the paper's order; T308 and T311 have rows of their own
 
@@ -88,9 +89,25 @@ EXPIRY_311 = 24
 abbrev pub EXPIRY_NONE : ℕ
 EXPIRY_NONE = 25
 
+-- a timer's place, and the timer at one
+
+abbrev pub place : Timer → ℕ
+place Timer.T301 = 0
+place Timer.T302 = 1
+place Timer.T303 = 2
+place Timer.T306 = 3
+place Timer.T308 = 4
+place Timer.T310 = 5
+place Timer.T311 = 6
+
+abbrev pub timer_in : ℕ → Timer
+timer_in k =
+    cond (eqb k 1) Timer.T302
+    (cond (eqb k 2) Timer.T303 (cond (eqb k 3) Timer.T306 (cond (eqb k 4) Timer.T308 (cond (eqb k 5) Timer.T310 (cond (eqb k 6) Timer.T311 Timer.T301)))))
+
 abbrev pub flat : ℕ → ℕ → ℕ → ℕ → ℕ → ℕ → ℕ → ℕ → ℕ → ℕ → Flat
 flat kind address id mode ask value reset code slots timer =
-    record { kind = kind; address = address; id = id; mode = mode; ask = ask; value = value; reset = reset; code = code; slots = slots; timer = timer }
+    record { kind = kind; address = address; id = id; mode = mode; ask = ask; value = value; reset = reset; code = code; slots = slots; timer = timer_in timer }
 
 -- an event that brings nothing, an identifier, or the place of a timer
 

@@ -1,11 +1,11 @@
 -- What a row of the table says of a call and an event: the row of the first engine, with the same orders and values.
-use Rattle.std.specs.Prelude.{ℕ, ◌+◌, ◌*◌, ◌/◌, ◌%◌, cond, ◌||◌, leb, eqb}
+use Rattle.std.specs.Prelude.{ℕ, ◌+◌, ◌*◌, ◌/◌, ◌%◌, cond, ◌||◌, Option, None, Some, leb, eqb}
 use Rattle.callcontrol.specs.declared.call.Call.{Call}
 use Rattle.callcontrol.specs.declared.row.Row.{Row}
 use Rattle.callcontrol.specs.Rows.{asks}
-use Rattle.callcontrol.specs.Settle.{none_row, plane_granted, plane_or_off, asked_after, restarting, code_after, slots_after}
+use Rattle.callcontrol.specs.Settle.{plane_granted, plane_or_off, asked_after, restarting, code_after, slots_after}
 use Rattle.small.specs.declared.flat.Flat.{Flat}
-use Rattle.small.specs.Flat.{EXPIRY}
+use Rattle.small.specs.Flat.{EXPIRY, place}
 use Rattle.small.specs.Table.{situation_of, facts_of, rows, first_of}
 
 -- 7 is rule G, 8 the same with off for 1 and 2; every other digit is a plane of row.rt
@@ -29,7 +29,7 @@ unfoldable pub code_by : ℕ → Call → Flat → ℕ
 code_by n c f = cond (eqb (n / 0x20000000000 % 2) 1) f.code (code_after f.reset f.code c.code)
 
 unfoldable pub expired_by : Flat → ℕ
-expired_by f = cond (leb EXPIRY f.kind) (f.timer * 0x100000000000 + 0x100000000000) 0
+expired_by f = cond (leb EXPIRY f.kind) (place f.timer * 0x100000000000 + 0x100000000000) 0
 
 abbrev pub mode_by : ℕ → Call → Flat → ℕ
 mode_by n c f = cond (eqb (n / 0x80000000000 % 2) 1) f.mode c.mode
@@ -54,8 +54,9 @@ row_by n c f =
       value = value_by (n / 0x100000000000 % 16) f;
     }
 
-unfoldable pub row_or : ℕ → Call → Flat → Row
-row_or n c f = cond (eqb n 0) none_row (row_by n c f)
+-- 0 is no row
+unfoldable pub row_or : ℕ → Call → Flat → Option Row
+row_or n c f = cond (eqb n 0) None (Some (row_by n c f))
 
-unfoldable pub table_row : Call → Flat → Row
+unfoldable pub table_row : Call → Flat → Option Row
 table_row c f = row_or (first_of (situation_of c) f.kind (facts_of c f) rows) c f

@@ -1,20 +1,18 @@
 -- An event's numbers from one table of events and one of letters. An entry of events has the letters, four bits each and the first lowest; then the size, and the
 -- kind, with a bit above it where the slots may follow; what each kind is, records' table says.
-use Rattle.std.specs.Prelude.{ℕ, ◌+◌, ◌*◌, ◌-◌, ◌/◌, ◌%◌, ◌≤◌, Bool, true, cond, ◌&&◌, List, [], ◌∷◌, leb, ltb, eqb, length, get_or, set}
+use Rattle.std.specs.Prelude.{ℕ, ◌+◌, ◌*◌, ◌-◌, ◌/◌, ◌%◌, ◌≤◌, Bool, true, cond, ◌&&◌, List, [], ◌∷◌, leb, ltb, eqb, length, get_or, set, Result, Ok, Err}
 use Rattle.records.specs.Bytes.{number}
 use Rattle.records.specs.Letters.{within}
-use Rattle.records.specs.Bodies.{Found, is, bad_at, size}
-use Rattle.records.specs.Tables.{Read, taken, refused}
+use Rattle.records.specs.Bodies.{Found, is, bad_at, size, unreadable_number, unreadable_place}
+use Rattle.records.specs.Tables.{Read, taken, refused, or_place}
 use Rattle.records.specs.Events.{EventKind, event_row, setup_request, setup_response, release_request, tx_request, d_call_proceeding, d_alert, d_connect, d_connect_acknowledge, d_setup, d_info, d_tx_granted, d_tx_ceased, d_tx_interrupt, d_tx_wait, d_tx_continue, d_call_restore, d_disconnect, d_release, report_sent, report_failed, break, resume, expiry}
+use Rattle.records.specs.declared.bodies.Unreadable.{Unreadable}
 use Rattle.records.specs.declared.events.Event.{Event}
 use Rattle.callcontrol.specs.declared.call.Call.{Call}
 use Rattle.callcontrol.specs.Call.{T308, T311}
-use Rattle.callcontrol.specs.Step.{answer_number}
 use Rattle.small.specs.declared.flat.Flat.{Flat}
 use Rattle.small.specs.Flat.{EXPIRY, EXPIRY_308, EXPIRY_311, flat, flat_of}
 use Rattle.small.specs.Entry.{spell, spelling}
-use Rattle.small.specs.declared.reading.FlatRead.{FlatRead}
-use Rattle.small.specs.declared.reading.FlatRead.TheVariants.{Is, Refused}
 
 -- the letters of events by number; one with an exception to its range is a letter of its own
 
@@ -149,9 +147,14 @@ Under [] cs = Unit {0}
 Under (v ∷ vs) [] = ⊥
 Under (v ∷ vs) (c ∷ cs) = (v ≤ c) × Under vs cs
 
--- the code's answer: the place, or 0
-abbrev pub as_filled : ℕ → List ℕ → Found (List ℕ)
-as_filled r v = cond (eqb r 0) (is v) (bad_at r)
+-- the code's answer, with the values then
+abbrev pub as_filled : Result Unit Unreadable → List ℕ → Read (List ℕ)
+as_filled (Ok done) v = taken v
+as_filled (Err u) v = refused (unreadable_number u) (unreadable_place u)
+
+-- the definitions' answer
+abbrev pub filled : Found (List ℕ) → Read (List ℕ)
+filled x = or_place x taken
 
 -- the place of a timer, 7 for none; and an expiry's number
 unfoldable pub timer_place : ℕ → ℕ
@@ -266,7 +269,3 @@ kind_by n c s =
 abbrev pub flatted : Call → Read Event → Read Flat
 flatted c (taken e) = taken (flat_of c e)
 flatted c (refused n p) = refused n p
-
-abbrev pub as_flat_read : FlatRead → Read Flat
-as_flat_read (Is f) = taken f
-as_flat_read (Refused a p) = refused (answer_number a) p

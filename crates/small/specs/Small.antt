@@ -1,5 +1,5 @@
 -- The step by the tables: an event's numbers, the row that they find, and the messages that it orders.
-use Rattle.std.specs.Prelude.{ℕ, Bool, false, cond, not, ◌&&◌, ◌||◌, List, leb, eqb, ltb, length}
+use Rattle.std.specs.Prelude.{ℕ, Bool, false, cond, not, ◌&&◌, ◌||◌, List, Option, None, Some, leb, eqb, ltb, length}
 use Rattle.std.proofs.lemmas.List.Edits.{sets}
 use Rattle.records.specs.Bodies.{kind_in}
 use Rattle.records.specs.Tables.{Read, taken, refused, or_refuse}
@@ -24,12 +24,17 @@ names_other kind id held idle =
 unfoldable pub over_flat : ℕ → ℕ → Bool
 over_flat kind plane = eqb kind D_INFO && (eqb plane 1 || eqb plane 3)
 
+-- what follows where there is a row, and else what is without one
+abbrev pub with_row : Option Row → Outcome → (Row → Outcome) → Outcome
+with_row None other f = other
+with_row (Some r) other f = f r
+
 -- 5, 6 and 8, and then what the row does
 unfoldable pub decided_by : Call → Flat → List ℕ → Outcome
 decided_by c f buffer =
     cond (names_other f.kind f.id c.id (is_idle c)) (refusal 5 c buffer)
-    (cond (eqb (table_row c f).orders 0) (refusal 6 c buffer)
-    (cond (over_flat f.kind c.plane) (refusal 8 c buffer) (carried c (settled c (table_row c f)) buffer)))
+    (with_row (table_row c f) (refusal 6 c buffer)
+    (λ r. cond (over_flat f.kind c.plane) (refusal 8 c buffer) (carried c (settled c r) buffer)))
 
 -- the same with the messages by the table
 unfoldable pub carried_by : Call → Row → List ℕ → Outcome
@@ -41,8 +46,8 @@ carried_by c r buffer =
 unfoldable pub tabled : Call → Flat → List ℕ → Outcome
 tabled c f buffer =
     cond (names_other f.kind f.id c.id (is_idle c)) (refusal 5 c buffer)
-    (cond (eqb (table_row c f).orders 0) (refusal 6 c buffer)
-    (cond (over_flat f.kind c.plane) (refusal 8 c buffer) (carried_by c (table_row c f) buffer)))
+    (with_row (table_row c f) (refusal 6 c buffer)
+    (λ r. cond (over_flat f.kind c.plane) (refusal 8 c buffer) (carried_by c r buffer)))
 
 abbrev pub when_flat : Read Flat → Call → List ℕ → Outcome
 when_flat (taken f) c buffer = tabled c f buffer

@@ -8,7 +8,8 @@ use Rattle.callcontrol.specs.declared.call.Call.{Call}
 use Rattle.callcontrol.specs.Call.{runs, T301}
 use Rattle.callcontrol.specs.Settle.{ALERT, BROKEN, CALL_ACTIVE, CANCEL, COMPLETE, CONFIRMED, ENDED, KEPT_PLANE, MO_CALL_SETUP, MODIFY_INDICATION, MT_CALL_SETUP, OVER, PLANE_2, PLANE_OFF, PROCEED, RELEASE, RELEASE_CONFIRM, RELEASE_INDICATION, RESTORING, SAME_PLANE, SENT, SETUP_CONFIRM, SETUP_INDICATION, START_301, START_302, START_303, START_306, START_310, STAY, STOP_301, STOP_302, STOP_303, STOP_306, TX_INDICATION, U_CALL_RESTORE, U_CONNECT, U_RELEASE, U_SETUP, U_TX_CEASED, U_TX_DEMAND, UP, WAIT}
 use Rattle.small.specs.declared.flat.Flat.{Flat}
-use Rattle.small.specs.Flat.{SETUP_REQUEST, SETUP_RESPONSE, RELEASE_REQUEST, TX_REQUEST, D_CALL_PROCEEDING, D_ALERT, D_CONNECT, D_CONNECT_ACKNOWLEDGE, D_SETUP, D_INFO, D_TX_GRANTED, D_TX_CEASED, D_TX_INTERRUPT, D_TX_WAIT, D_TX_CONTINUE, D_CALL_RESTORE, D_DISCONNECT, D_RELEASE, REPORT_SENT, REPORT_FAILED, BREAK, RESUME, EXPIRY, EXPIRY_308, EXPIRY_311}
+use Rattle.small.specs.declared.table.Situation.{Situation}
+use Rattle.small.specs.Flat.{place, SETUP_REQUEST, SETUP_RESPONSE, RELEASE_REQUEST, TX_REQUEST, D_CALL_PROCEEDING, D_ALERT, D_CONNECT, D_CONNECT_ACKNOWLEDGE, D_SETUP, D_INFO, D_TX_GRANTED, D_TX_CEASED, D_TX_INTERRUPT, D_TX_WAIT, D_TX_CONTINUE, D_CALL_RESTORE, D_DISCONNECT, D_RELEASE, REPORT_SENT, REPORT_FAILED, BREAK, RESUME, EXPIRY, EXPIRY_308, EXPIRY_311}
 
 -- where the call is
 
@@ -51,6 +52,17 @@ in_state State.MtCallSetup p = AT_MT
 in_state State.CallActive p = on_path p
 in_state State.Wait p = AT_WAIT
 in_state State.CallDisconnect p = AT_DISCONNECT
+
+-- by the number of its bit
+abbrev pub bit : Situation → ℕ
+bit Situation.Idle = 48
+bit Situation.Mo = 49
+bit Situation.Mt = 50
+bit Situation.Up = 51
+bit Situation.Broken = 52
+bit Situation.Restoring = 53
+bit Situation.Wait = 54
+bit Situation.Disconnect = 55
 
 abbrev pub situation_of : Call → ℕ
 situation_of c = in_state c.state c.path
@@ -99,7 +111,7 @@ IF_K_1 = if 7
 -- TX request with path up; a TX request that changes asked; and D-INFO with the held mode, D-TX INTERRUPT with g = 3 or D-TX CONTINUE with k = 1
 unfoldable pub facts_of : Call → Flat → List Bool
 facts_of c f =
-    cond (leb EXPIRY f.kind) (runs c f.timer) true ∷
+    cond (leb EXPIRY f.kind) (runs c (place f.timer)) true ∷
     eqb c.sent 0 ∷
     cond (eqb f.kind D_CONNECT_ACKNOWLEDGE) (runs c T301) (not (runs c T301)) ∷
     (eqb f.ask 1 && (eqb c.asked 0 && (eqb c.plane 2 || eqb c.plane 4))) ∷

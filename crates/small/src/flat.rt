@@ -1,5 +1,13 @@
-// An event as numbers: which one it is, and the values that it brings. A value that it does not bring is the one that the call holds, so
-// that a row may store it all the same.
+// An event as numbers, as the tables have it.
+ghost use Rattle.std.specs.Prelude.{◌≡◌, ◌<◌};
+ghost use Rattle.callcontrol.specs.Call.{is_idle};
+ghost use Rattle.small.specs.Flat.{place};
+ghost use Rattle.small.specs.Small.{names_other, over_flat};
+
+use callcontrol::call::Call;
+
+// Which event it is, and the values that it brings. A value that it does not bring is the one that the call holds, so that a row may store
+// it all the same.
 #[derive(Clone, Copy)]
 pub struct Flat {
     pub kind: u64,
@@ -12,13 +20,69 @@ pub struct Flat {
     pub value: u8,
     pub reset: u8,
     pub code: u8,
-    // 0 where the event brings none.
+    // 0 where the event brings none, as callcontrol's slots_after takes them.
     pub slots: u8,
-    // The place of the timer that expired.
-    pub timer: usize,
+    // The timer that expired.
+    pub timer: Timer,
 }
 
-// The events by number, in the paper's order. An expiry has three, since T308 and T311 have rows of their own.
+// A timer, with its place in a call's record.
+#[derive(Clone, Copy, Debug, PartialEq, Eq)]
+pub enum Timer {
+    T301 = 0,
+    T302 = 1,
+    T303 = 2,
+    T306 = 3,
+    T308 = 4,
+    T310 = 5,
+    T311 = 6,
+}
+
+impl Timer {
+    // The timer at a place.
+    pub fn at(k: usize) -> Self
+        requires { k < 7 }
+        ensures { place result ≡ k }
+    {
+        match k {
+            0 => Timer::T301,
+            1 => Timer::T302,
+            2 => Timer::T303,
+            3 => Timer::T306,
+            4 => Timer::T308,
+            5 => Timer::T310,
+            _ => Timer::T311,
+        }
+    }
+}
+
+impl Flat {
+    // Whether it is a network event but D-SETUP, and names another call.
+    #[tactic(auto, unfolding(crate::specs::Small::names_other))]
+    pub fn names_other(self, call: Call) -> bool
+        ensures { result ≡ names_other self.kind self.id call.id (is_idle call) }
+    {
+        match self.kind {
+            D_SETUP => false,
+            D_CALL_PROCEEDING..=D_RELEASE => {
+                (self.id != call.id) & ((call.id != 0) | call.is_idle())
+            }
+            _ => false,
+        }
+    }
+
+    // Whether it is D-INFO while the set transmits.
+    #[tactic(auto, unfolding(crate::specs::Small::over_flat))]
+    pub fn is_over(self, call: Call) -> bool
+        ensures { result ≡ over_flat self.kind call.plane }
+    {
+        (self.kind == D_INFO) & call.transmits()
+    }
+}
+
+// The events by number, in the paper's order. An expiry has three, since T308 and T311 have rows of their own. Numbers and no enum: a row
+// of the table has its event in its sum, and an event is read as its entry's place in a table, from which an enum would come by a match of
+// 25 arms.
 pub const SETUP_REQUEST: u64 = 0;
 
 pub const SETUP_RESPONSE: u64 = 1;

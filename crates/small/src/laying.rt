@@ -1,20 +1,26 @@
 // A row's messages from one table of messages, laid in a room of our own and copied into the lent buffer.
-ghost use Rattle.std.specs.Prelude.{◌≡◌, true, false, cond, ◌+◌, ◌-◌, ◌/◌, ◌%◌, ◌≤◌, ◌<◌, eqb, length, get_or, set};
+ghost use Rattle.std.specs.Option.{unwrap_or};
+ghost use Rattle.std.specs.Bool.{then_some};
+ghost use Rattle.std.specs.Prelude.{ℕ, ◌≡◌, true, false, cond, ◌+◌, ◌-◌, ◌/◌, ◌%◌, ◌≤◌, ◌<◌, eqb, length, get_or, set};
 ghost use Rattle.records.specs.Bytes.{bytes};
 ghost use Rattle.records.specs.Bodies.{Stored};
 ghost use Rattle.callcontrol.specs.Settle.{has, configure_by, settled};
 ghost use Rattle.callcontrol.specs.Step.{carried, as_outcome};
-ghost use Rattle.small.specs.Entry.{STOP, width_of, body, spell, spelled, entry_bytes, entries};
-ghost use Rattle.small.specs.Places.{timer_at, place_bytes, places_from, number_of, pdu_of, ordered, tells_plane, starts_at, stops_at, ran_at, started, stop_of, runs_of, turned, turns, number_after, number_in, code_of, Alike};
+ghost use Rattle.small.specs.Flat.{place};
+ghost use Rattle.small.specs.Entry.{STOP, width_of, body, spell, spelled, entry_bytes};
+ghost use Rattle.small.specs.Places.{timer_at, place_bytes, places_from, number_of, pdu_of, ordered, tells_plane, ran_at, started, stopped, stop_of, runs_of, turned, turns, number_after, number_in, code_of, Alike};
 
+use crate::entry::{FOURTH, KIND, Letters, SECOND, SIZE, THIRD};
+use crate::flat::Timer;
 use callcontrol::call::{Call, T301, T302, T303, T306, T308, T310, T311};
 use callcontrol::row::{
     CANCEL, EXPIRED_301, KEPT_PLANE, OVER, PLANE_1, Row, SAME_PLANE, SETUP_INDICATION, U_SETUP,
 };
 use callcontrol::settle::next_by;
-use callcontrol::step::{Answer, Stepped, refuse};
+use callcontrol::step::{Refusal, Stepped};
+use std::marker::Model;
 
-// The letters of messages by number; 0 is none. TOLD is what the row tells: c, g, x, or the slots of a SETUP request.
+// The letters of messages by number, since an entry of the table is a sum of them; 0 is none. TOLD is what the row tells: c, g, x, or the slots of a SETUP request.
 const NO_LETTER: u32 = 0;
 
 const I: u32 = 1;
@@ -35,17 +41,7 @@ const P: u32 = 8;
 
 const S: u32 = 9;
 
-// A message: its kind, its size, and its letters, the first lowest.
-const KIND: u32 = 0x100000;
-
-const SIZE: u32 = 0x10000;
-
-const SECOND: u32 = 16;
-
-const THIRD: u32 = 256;
-
-const FOURTH: u32 = 4096;
-
+// The kinds by number.
 const IS_U_SETUP: u32 = 0x501 * KIND;
 
 const IS_U_CONNECT: u32 = 0x502 * KIND;
@@ -89,7 +85,7 @@ const IS_MODIFY_INDICATION: u32 = 0x709 * KIND;
 const NO_MESSAGE: u32 = 0;
 
 // The paper's table of messages.
-const MESSAGES: [u32; 22] = [
+static MESSAGES: [u32; 22] = [
     NO_MESSAGE,
     // The U-PDUs, in the order of a row's digits.
     IS_U_SETUP + 10 * SIZE + A + D * SECOND + Q * THIRD,
@@ -118,37 +114,6 @@ const MESSAGES: [u32; 22] = [
     IS_U_SETUP + 11 * SIZE + A + D * SECOND + Q * THIRD + TOLD * FOURTH,
 ];
 
-// A message by its number, none behind the last. `MESSAGES[n]` would build the array on the stack; of these arms the compiler makes one static table.
-fn message_at(n: usize) -> u32
-    ensures { result ≡ get_or entries n 0 }
-{
-    match n {
-        0 => MESSAGES[0],
-        1 => MESSAGES[1],
-        2 => MESSAGES[2],
-        3 => MESSAGES[3],
-        4 => MESSAGES[4],
-        5 => MESSAGES[5],
-        6 => MESSAGES[6],
-        7 => MESSAGES[7],
-        8 => MESSAGES[8],
-        9 => MESSAGES[9],
-        10 => MESSAGES[10],
-        11 => MESSAGES[11],
-        12 => MESSAGES[12],
-        13 => MESSAGES[13],
-        14 => MESSAGES[14],
-        15 => MESSAGES[15],
-        16 => MESSAGES[16],
-        17 => MESSAGES[17],
-        18 => MESSAGES[18],
-        19 => MESSAGES[19],
-        20 => MESSAGES[20],
-        21 => MESSAGES[21],
-        _ => NO_MESSAGE,
-    }
-}
-
 // How many U-PDUs and user primitives there are, and the numbers of the messages behind them.
 const U_PDUS: u64 = 7;
 
@@ -162,7 +127,7 @@ const CONFIGURE: usize = 19;
 
 const CANCELLING: usize = 20;
 
-const SETUP_WITH_SLOTS: u64 = 21;
+const SETUP_WITH_SLOTS: usize = 21;
 
 // The places of the order of writing: STOPs by rising number of the timer, CANCEL, U-PDU, STARTs, CONFIGURE, user primitive.
 const TIMERS: usize = 7;
@@ -203,30 +168,8 @@ const SETUP: u64 = U_SETUP / U_SETUP;
 // The plane on which the set transmits, and T311 runs.
 const SENDING: u8 = 1;
 
-fn store(out: &mut [u8], at: usize, b: u8)
-    ensures { out.new ≡ set out.old at b }
-{
-    if at < out.len() {
-        out[at] = b;
-    }
-}
-
-// A number's bytes, as far as there is room.
-fn put(out: &mut [u8], at: usize, v: u32, width: usize) -> usize
-    requires { (at ≤ 0x100000) × (width ≤ 4) }
-    ensures { Stored out.old at (bytes width v) result out.new }
-{
-    let mut x = v;
-    let mut k: usize = 0;
-    while k < width {
-        store(out, at + k, (x % 256) as u8);
-        x = x / 256;
-        k = k + 1;
-    }
-    at + width
-}
-
 // How many bytes a letter takes.
+#[tactic(auto, unfolding(crate::specs::Entry::width_of))]
 fn width_of(l: u32) -> usize
     ensures value { result ≡ width_of l }
     ensures upper_bound { result ≤ 4 }
@@ -241,6 +184,7 @@ fn width_of(l: u32) -> usize
 }
 
 // The timer of a place, by its number.
+#[tactic(auto, unfolding(crate::specs::Places::timer_at))]
 fn timer_at(k: usize) -> u32
     ensures { result ≡ timer_at k }
 {
@@ -256,29 +200,6 @@ fn timer_at(k: usize) -> u32
     }
 }
 
-fn lay_body(letters: u32, v: &[u32; 10], out: &mut [u8], at: usize) -> usize
-    requires { (letters < 0x10000) × (at ≤ 1024) × (spelled (spell 4 letters) ≡ true) }
-    ensures { Stored out.old at (body (spell 4 letters) v.now) result out.new }
-{
-    let mut left = letters;
-    let mut next = at;
-    while left != 0 {
-        let l = left % 16;
-        let place = l as usize;
-        next = put(out, next, v[place], width_of(l));
-        left = left / 16;
-    }
-    next
-}
-
-fn lay_entry(entry: u32, v: &[u32; 10], out: &mut [u8], at: usize) -> usize
-    requires { (at ≤ 512) × (spelled (spell 4 (entry % 0x10000)) ≡ true) }
-    ensures { Stored out.old at (entry_bytes entry v.now) result out.new }
-{
-    let next = put(out, at, entry / SIZE % 16 + entry / KIND * 0x10000, 4);
-    lay_body(entry % SIZE, v, out, next)
-}
-
 // START carries T310's code; every other timer has 0.
 fn code_at(k: usize, code: u32) -> u32
     ensures { result ≡ cond (eqb k 14) code 0 }
@@ -286,224 +207,255 @@ fn code_at(k: usize, code: u32) -> u32
     if k == START_OF_T310 { code } else { 0 }
 }
 
-// The message at a place of the order of writing, by its number; 0 is none.
-fn lay_place(k: usize, n: usize, v: &mut [u32; 10], out: &mut [u8], at: usize) -> usize
-    requires { (n < 22) × (at ≤ 512) }
-    ensures stored { Stored out.old at (place_bytes k n v.old) result out.new }
-    ensures alike { Alike v.new v.old }
-    ensures upper_bound { result ≤ at + 20 }
-{
-    if n == 0 {
-        return at;
-    }
-    let code = code_at(k, v[T310_CODE]);
-    v[TIMER] = timer_at(k % FIRST_START);
-    v[CODE] = code;
-    lay_entry(message_at(n), v, out, at)
+// A room of our own, for what eighteen places take, whatever stands there; and how far it is filled.
+#[derive(Drop)]
+struct Room {
+    bytes: [u8; 360],
+    at: usize,
 }
 
-// Whether an order of one bit is in the sum.
-fn ordered(n: u64, bit: usize) -> bool
-    requires { bit < 64 }
-    ensures { result ≡ ordered n bit }
-{
-    (n >> bit) % 2 == 1
+impl Room {
+    fn new() -> Self
+        ensures bytes { 360 ≡ length result.bytes }
+        ensures at { result.at ≡ 0 }
+    {
+        Room {
+            bytes: [0; 360],
+            at: 0,
+        }
+    }
+
+    // A number's bytes.
+    fn put(&mut self, v: u32, width: usize)
+        requires { (self.old.at + width ≤ 360) × (width ≤ 4) }
+        ensures { Stored self.old.bytes self.old.at (bytes width v) self.new.at self.new.bytes }
+    {
+        let at = self.at;
+        let end = at + width;
+        self.bytes[at..end].copy_from_slice(&v.to_le_bytes()[..width]);
+        self.at = end;
+    }
+
+    fn lay_body(&mut self, letters: u32, v: &[u32; 10])
+        requires { (letters < 0x10000) × (self.old.at ≤ 344) × (spelled (spell 4 letters) ≡ true) }
+        ensures { Stored self.old.bytes self.old.at (body (spell 4 letters) v.now) self.new.at self.new.bytes }
+    {
+        for l in (Letters { left: letters }) {
+            self.put(v[l as usize], width_of(l));
+        }
+    }
+
+    fn lay_entry(&mut self, entry: u32, v: &[u32; 10])
+        requires { (self.old.at ≤ 340) × (spelled (spell 4 (entry % 0x10000)) ≡ true) }
+        ensures { Stored self.old.bytes self.old.at (entry_bytes entry v.now) self.new.at self.new.bytes }
+    {
+        self.put(entry / SIZE % 16 + entry / KIND * 0x10000, 4);
+        self.lay_body(entry % SIZE, v);
+    }
+
+    // The message at a place of the order of writing, by its number, where there is one.
+    fn lay_place(&mut self, k: usize, number: Option<Number>, v: &mut [u32; 10])
+        requires { self.old.at ≤ 340 }
+        ensures stored { Stored self.old.bytes self.old.at (place_bytes k (unwrap_or number 0) v.old) self.new.at self.new.bytes }
+        ensures alike { Alike v.new v.old }
+        ensures upper_bound { self.new.at ≤ self.old.at + 20 }
+    {
+        let Some(number) = number else {
+            return;
+        };
+        let code = code_at(k, v[T310_CODE]);
+        v[TIMER] = timer_at(k % FIRST_START);
+        v[CODE] = code;
+        self.lay_entry(MESSAGES[number.n], v);
+    }
 }
 
-// Whether a plane is told that the call does not have already; T311 goes with it.
-fn tells_plane(n: u64) -> bool
-    ensures { result ≡ tells_plane n }
-{
-    let p = n / PLANE_1 % 16;
-    (p != NO_PLANE) & (p != PRESENT)
+// A message's number in the table; the first entry is none.
+#[derive(Clone, Copy)]
+struct Number {
+    n: usize,
 }
 
-// Whether a timer is started, where `bit` orders it: T310 only with a limit, T311 with plane 1.
-fn starts_at(k: usize, bit: bool, code: u8, configure: u8, told: bool) -> bool
-    ensures { result ≡ starts_at k bit code configure told }
-{
-    if k == T311 {
-        return told & (configure == SENDING);
-    }
-    if k == T310 {
-        return bit & (code != 0);
-    }
-    bit
+impl Model for Number {
+    ghost Value = { ℕ };
+
+    ghost view = { λ m. m.n };
+
+    ghost invariant = { λ m. (0 < m.n) × (m.n < 22) };
+
+    ghost inverse = { λ n. record { n = n } };
 }
 
-// Whether it is stopped, unless it is started.
-fn stops_at(k: usize, bit: bool, start: bool, told: bool) -> bool
-    ensures { result ≡ stops_at k bit start told }
-{
-    if k == T311 {
-        return bit | told;
-    }
-    if k == T310 {
-        return bit | start;
-    }
-    bit
-}
-
-// Whether it ran until now; an expired timer did not.
-fn ran_at(k: usize, n: u64, held: bool) -> bool
-    requires { k < 7 }
-    ensures { result ≡ ran_at k n held }
-{
-    held & (n / EXPIRED_301 % 16 != (k as u64) + 1)
-}
-
-// A timer's turn: its STOP or none, and whether it runs then.
-fn turn(k: usize, n: u64, code: u8, configure: u8, running: &mut [bool; 7]) -> usize
-    requires { k < 7 }
-    ensures value { result ≡ cond (stop_of n code configure (get_or running.old k false) k) STOP 0 }
-    ensures upper_bound { result < 22 }
-    ensures running_after { running.new ≡ set running.old k (runs_of n code configure (get_or running.old k false) k) }
-{
-    let told = tells_plane(n);
-    let bit = ordered(n, STARTS + k);
-    let start = starts_at(k, bit, code, configure, told);
-    let stop = stops_at(k, ordered(n, STOPS + k), bit, told);
-    let ran = ran_at(k, n, running[k]);
-    running[k] = start | (ran & !stop);
-    when(ran & stop & !start, STOP)
-}
-
-// What follows the STOPs: CANCEL, U-PDU, STARTs by rising number, CONFIGURE, user primitive.
-fn number_at(k: usize, n: u64, code: u8, value: u8, configure: u8) -> usize
-    requires { (6 < k) × (k < 18) }
-    ensures value { result ≡ number_after (started n code configure (k - 9)) n value configure k }
-    ensures upper_bound { result < 22 }
-{
-    if k == PLACE_OF_CANCEL {
-        return when(cancels(n), CANCELLING);
-    }
-    if k == PLACE_OF_U_PDU {
-        return pdu_of(n / U_SETUP % 16, value) as usize;
-    }
-    if k < PLACE_OF_CONFIGURE {
-        let told = tells_plane(n);
-        let timer = k - FIRST_START;
-        let start = starts_at(timer, ordered(n, STARTS + timer), code, configure, told);
-        return when(start, START);
-    }
-    if k == PLACE_OF_CONFIGURE {
-        return when(configure != 0, CONFIGURE);
-    }
-    number_of(n / SETUP_INDICATION % 16, PRIMITIVES, U_PDUS) as usize
-}
-
-// The message at a place, and the timers then: STOPs by rising number, and what follows them.
-fn number_for(
-    k: usize,
-    n: u64,
+// What a row orders: its sum of orders, T310's code, what is told, and the plane that CONFIGURE tells, 0 for none as callcontrol's next_by
+// takes it.
+#[derive(Clone, Copy)]
+struct Orders {
+    sum: u64,
     code: u8,
     value: u8,
     configure: u8,
-    running: &mut [bool; 7],
-) -> usize
-    requires { k < 18 }
-    ensures value { result ≡ number_in n code value configure running.old k }
-    ensures upper_bound { result < 22 }
-    ensures running_after { running.new ≡ turned n code configure k running.old }
-{
-    if k < TIMERS {
-        return turn(k, n, code, configure, running);
+}
+
+impl Orders {
+    // Whether an order of one bit is in the sum.
+    #[tactic(auto, unfolding(crate::specs::Places::ordered))]
+    fn has(self, bit: usize) -> bool
+        requires { bit < 64 }
+        ensures { result ≡ ordered self.sum bit }
+    {
+        (self.sum >> bit) % 2 == 1
     }
-    number_at(k, n, code, value, configure)
-}
 
-fn lay_all(
-    n: u64,
-    code: u8,
-    value: u8,
-    configure: u8,
-    running: &mut [bool; 7],
-    v: &mut [u32; 10],
-    out: &mut [u8],
-) -> usize
-    ensures stored { Stored out.old 0 (places_from 18 0 (number_in n code value configure running.old) v.old) result out.new }
-    ensures upper_bound { result ≤ 360 }
-    ensures running_after { running.new ≡ turns n code configure 18 0 running.old }
-{
-    let mut at: usize = 0;
-    let mut k: usize = 0;
-    while k < PLACES {
-        let m = number_for(k, n, code, value, configure, running);
-        at = lay_place(k, m, v, out, at);
-        k = k + 1;
+    // Whether a plane is told that the call does not have already; T311 goes with it.
+    #[tactic(auto, unfolding(crate::specs::Places::tells_plane))]
+    fn tells_plane(self) -> bool
+        ensures { result ≡ tells_plane self.sum }
+    {
+        let p = self.sum / PLANE_1 % 16;
+        (p != NO_PLANE) & (p != PRESENT)
     }
-    at
-}
 
-// Room for what eighteen places take, whatever stands there.
-fn own_room() -> [u8; 360]
-    ensures { 360 ≡ length result }
-{
-    [0; 360]
-}
-
-fn number_of(digit: u64, most: u64, before: u64) -> u64
-    requires { (digit < 16) × (before ≤ 8) }
-    ensures value { result ≡ number_of digit most before }
-    ensures upper_bound { result ≤ most + before }
-{
-    if digit == 0 {
-        return 0;
+    // Whether a timer is started: T310 only with a limit, T311 with plane 1.
+    #[tactic(auto, unfolding(crate::specs::Places::started, crate::specs::Places::starts_at))]
+    fn starts(self, timer: Timer) -> bool
+        ensures { result ≡ started self.sum self.code self.configure (place timer) }
+    {
+        let bit = self.has(STARTS + timer as usize);
+        match timer {
+            Timer::T311 => self.tells_plane() & (self.configure == SENDING),
+            Timer::T310 => bit & (self.code != 0),
+            _ => bit,
+        }
     }
-    if most < digit {
-        return 0;
+
+    // Whether it is stopped, unless it is started.
+    #[tactic(auto, unfolding(crate::specs::Places::stopped, crate::specs::Places::stops_at))]
+    fn stops(self, timer: Timer) -> bool
+        ensures { result ≡ stopped self.sum (place timer) }
+    {
+        let bit = self.has(STOPS + timer as usize);
+        match timer {
+            Timer::T311 => bit | self.tells_plane(),
+            Timer::T310 => bit | self.has(STARTS + timer as usize),
+            _ => bit,
+        }
     }
-    digit + before
-}
 
-// The U-PDU: U-SETUP has an entry of its own where it carries slots.
-fn pdu_of(digit: u64, value: u8) -> u64
-    requires { digit < 16 }
-    ensures value { result ≡ pdu_of digit value }
-    ensures upper_bound { result ≤ 21 }
-{
-    if (digit == SETUP) & (value != 0) {
-        return SETUP_WITH_SLOTS;
+    // Whether it ran until now; an expired timer did not.
+    #[tactic(auto, unfolding(crate::specs::Places::ran_at))]
+    fn ran(self, timer: Timer, held: bool) -> bool
+        ensures { result ≡ ran_at (place timer) self.sum held }
+    {
+        held & (self.sum / EXPIRED_301 % 16 != (timer as u64) + 1)
     }
-    number_of(digit, U_PDUS, 0)
+
+    // A timer's turn: its STOP or none, and whether it runs then.
+    #[tactic(auto, unfolding(crate::specs::Places::stop_of, crate::specs::Places::runs_of))]
+    fn turn(self, timer: Timer, running: &mut [bool; 7]) -> Option<Number>
+        ensures stop { result ≡ then_some (stop_of self.sum self.code self.configure (get_or running.old (place timer) false) (place timer)) STOP }
+        ensures running_after { running.new ≡ set running.old (place timer) (runs_of self.sum self.code self.configure (get_or running.old (place timer) false) (place timer)) }
+    {
+        let k = timer as usize;
+        let start = self.starts(timer);
+        let stop = self.stops(timer);
+        let ran = self.ran(timer, running[k]);
+        running[k] = start | (ran & !stop);
+        (ran & stop & !start).then_some(Number { n: STOP })
+    }
+
+    #[tactic(auto, unfolding(callcontrol::specs::Settle::has))]
+    fn cancels(self) -> bool
+        ensures { result ≡ has self.sum 0x1000000 }
+    {
+        self.sum / CANCEL % 2 == 1
+    }
+
+    // The U-PDU: U-SETUP has an entry of its own where it carries slots.
+    #[tactic(auto, unfolding(crate::specs::Places::pdu_of))]
+    fn pdu(self) -> Option<Number>
+        ensures { unwrap_or result 0 ≡ pdu_of (self.sum / 0x10000 % 16) self.value }
+    {
+        let digit = self.sum / U_SETUP % 16;
+        if (digit == SETUP) & (self.value != 0) {
+            return Some(Number {
+                n: SETUP_WITH_SLOTS,
+            });
+        }
+        number_of(digit, U_PDUS, 0)
+    }
+
+    // What follows the STOPs: CANCEL, U-PDU, STARTs by rising number, CONFIGURE, user primitive.
+    #[tactic(auto, unfolding(crate::specs::Places::number_after))]
+    fn number_at(self, k: usize) -> Option<Number>
+        requires { (6 < k) × (k < 18) }
+        ensures { unwrap_or result 0 ≡ number_after (started self.sum self.code self.configure (k - 9)) self.sum self.value self.configure k }
+    {
+        match k {
+            PLACE_OF_CANCEL => self.cancels().then_some(Number { n: CANCELLING }),
+            PLACE_OF_U_PDU => self.pdu(),
+            FIRST_START..PLACE_OF_CONFIGURE => self
+                .starts(Timer::at(k - FIRST_START))
+                .then_some(Number { n: START }),
+            PLACE_OF_CONFIGURE => (self.configure != 0).then_some(Number { n: CONFIGURE }),
+            _ => number_of(self.sum / SETUP_INDICATION % 16, PRIMITIVES, U_PDUS),
+        }
+    }
+
+    // The message at a place, and the timers then: STOPs by rising number, and what follows them.
+    #[tactic(auto, unfolding(crate::specs::Places::number_in, crate::specs::Places::turned))]
+    fn number_for(self, k: usize, running: &mut [bool; 7]) -> Option<Number>
+        requires { k < 18 }
+        ensures value { unwrap_or result 0 ≡ number_in self.sum self.code self.value self.configure running.old k }
+        ensures running_after { running.new ≡ turned self.sum self.code self.configure k running.old }
+    {
+        if k < TIMERS {
+            return self.turn(Timer::at(k), running);
+        }
+        self.number_at(k)
+    }
+
+    fn lay_all(self, running: &mut [bool; 7], v: &mut [u32; 10], room: &mut Room)
+        requires { room.old.at ≡ 0 }
+        ensures stored { Stored room.old.bytes 0 (places_from 18 0 (number_in self.sum self.code self.value self.configure running.old) v.old) room.new.at room.new.bytes }
+        ensures upper_bound { room.new.at ≤ 360 }
+        ensures running_after { running.new ≡ turns self.sum self.code self.configure 18 0 running.old }
+    {
+        for k in 0..PLACES {
+            room.lay_place(k, self.number_for(k, running), v);
+        }
+    }
 }
 
-fn when(flag: bool, n: usize) -> usize
-    ensures value { result ≡ cond flag n 0 }
-    ensures upper_bound { result ≤ n }
+// The number of the message that a row's digit orders, among the first so many behind some others.
+#[tactic(auto, unfolding(crate::specs::Places::number_of))]
+fn number_of(digit: u64, most: u64, before: u64) -> Option<Number>
+    requires { (digit < 16) × (most + before < 22) }
+    ensures { unwrap_or result 0 ≡ number_of digit most before }
 {
-    if flag { n } else { 0 }
+    if digit == 0 || most < digit {
+        return None;
+    }
+    Some(Number {
+        n: (digit + before) as usize,
+    })
 }
 
-fn cancels(n: u64) -> bool
-    ensures { result ≡ has n 0x1000000 }
-{
-    n / CANCEL % 2 == 1
-}
-
-// The plane that CONFIGURE tells, 0 for none: the present one for 5, the kept one for 6.
+// The plane that CONFIGURE tells, 0 for none: the present one for 5, the kept one for 6. It is callcontrol's own once more, which is closed: what
+// that crate opens is a promise of the library (docs/PROMISES.md).
+#[tactic(auto, unfolding(callcontrol::specs::Settle::configure_by))]
 fn configure_by(digit: u64, call: Call) -> u8
     requires { digit < 16 }
     ensures { result ≡ configure_by digit call }
 {
-    if digit == PRESENT {
-        return call.plane;
+    match digit {
+        PRESENT => call.plane,
+        KEPT => call.kept,
+        _ => digit as u8,
     }
-    if digit == KEPT {
-        return call.kept;
-    }
-    digit as u8
-}
-
-// The call's timers, of which there are seven.
-fn timers_of(call: Call) -> [bool; 7]
-    ensures value { result ≡ call.timers }
-    ensures timers_len { length call.timers ≡ 7 }
-{
-    call.timers
 }
 
 // A call that has ended holds no code.
+#[tactic(auto, unfolding(crate::specs::Places::code_of))]
 fn code_of(n: u64, code: u8) -> u8
     ensures { result ≡ code_of n code }
 {
@@ -511,8 +463,8 @@ fn code_of(n: u64, code: u8) -> u8
 }
 
 // A row carried out: its messages are laid in a room of our own first, and copied only where they fit.
-pub fn carry_row(call: Call, row: Row, buffer: &mut [u8]) -> Stepped
-    ensures { as_outcome result buffer.new ≡ carried call (settled call row) buffer.old }
+pub fn carry_row(call: Call, row: Row, buffer: &mut [u8]) -> Result<Stepped, Refusal>
+    ensures { as_outcome call result buffer.new ≡ carried call (settled call row) buffer.old }
 {
     let n = row.orders;
     let configure = configure_by(n / PLANE_1 % 16, call);
@@ -528,26 +480,22 @@ pub fn carry_row(call: Call, row: Row, buffer: &mut [u8]) -> Stepped
         configure as u32,
         row.slots as u32,
     ];
-    let mut running = timers_of(call);
-    let mut own = own_room();
-    let size = lay_all(
-        n,
-        row.code,
-        row.value,
+    let orders = Orders {
+        sum: n,
+        code: row.code,
+        value: row.value,
         configure,
-        &mut running,
-        &mut values,
-        &mut own,
-    );
+    };
+    let mut running = call.timers;
+    let mut room = Room::new();
+    orders.lay_all(&mut running, &mut values, &mut room);
+    let size = room.at;
     if buffer.len() < size {
-        return refuse(Answer::NoRoom, 0, call);
+        return Err(Refusal::NoRoom);
     }
-    let room = &mut buffer[..size];
-    room.copy_from_slice(&own[..size]);
-    Stepped {
-        answer: Answer::Taken,
-        place: 0,
+    buffer[..size].copy_from_slice(&room.bytes[..size]);
+    Ok(Stepped {
         count: size,
         call: next_by(call, row, configure, running),
-    }
+    })
 }

@@ -1,17 +1,20 @@
 // An event's numbers from one table of events and one of letters: what the record reader of the first engine takes and refuses.
-ghost use Rattle.std.specs.Prelude.{◌≡◌, true, ◌+◌, ◌-◌, ◌/◌, ◌%◌, ◌<◌, ◌≤◌, length};
+ghost use Rattle.std.specs.Option.{option_map_or, unwrap_or};
+ghost use Rattle.std.specs.Prelude.{IfSome, slice_get, cond, eqb, ◌≡◌, true, ◌+◌, ◌-◌, ◌%◌, ◌<◌, ◌≤◌, length};
 ghost use Rattle.records.specs.Bytes.{number};
-ghost use Rattle.records.specs.Tables.{read};
+ghost use Rattle.records.specs.Tables.{read, as_read};
 ghost use Rattle.records.specs.Events.{events};
+ghost use Rattle.small.specs.Flat.{EXPIRY, place};
 ghost use Rattle.small.specs.Entry.{spell};
-ghost use Rattle.small.specs.Reading.{fill, total, caps, Under, as_filled, with_slots, one_more, letters_for, sized_well, timer_place, late_kind, flat_by, body_by, hint_of, kind_by, flatted, as_flat_read};
+ghost use Rattle.small.specs.Reading.{fill, total, caps, Under, as_filled, filled, with_slots, one_more, letters_for, sized_well, timer_place, late_kind, flat_by, body_by, hint_of, kind_by, flatted};
 
-use crate::flat::{D_CALL_PROCEEDING, EXPIRY, EXPIRY_308, EXPIRY_311, Flat, REPORT_SENT};
-use callcontrol::call::{Call, T301, T302, T303, T306, T308, T310, T311};
-use callcontrol::step::Answer;
-use records::bodies::{Head, kind_in};
+use crate::entry::{FIFTH, FOURTH, KIND, Letters, SECOND, SIZE, THIRD};
+use crate::flat::{D_CALL_PROCEEDING, EXPIRY, EXPIRY_308, EXPIRY_311, Flat, REPORT_SENT, Timer};
+use callcontrol::call::Call;
+use records::bodies::{Unreadable, kind_in};
+use records::fields::{long_at, word_at};
 
-// The paper's letters by number; 0 is none. One with an exception to its range is a letter of its own.
+// The paper's letters by number, since an entry of the table is a sum of them; 0 is none. One with an exception to its range is a letter of its own.
 const A1: u32 = 1;
 
 const A: u32 = 2;
@@ -38,22 +41,8 @@ const O16: u32 = 12;
 
 const S: u32 = 13;
 
-// An event: its kind, its size, and its letters, the first lowest; and whether one more, the slots, may follow them.
-const KIND: u32 = 0x100000;
-
-const SIZE: u32 = 0x10000;
-
-const SECOND: u32 = 16;
-
-const THIRD: u32 = 256;
-
-const FOURTH: u32 = 4096;
-
-const FIFTH: u32 = 65536;
-
+// The bit of an event whose letters one more may follow, the slots; and the slots as the fourth letter and the fifth.
 const OR_WITH_SLOTS: u32 = 0x80000000;
-
-const NO_BODY: u32 = 0x100000;
 
 const S_FOURTH: u32 = S * FOURTH;
 
@@ -113,7 +102,7 @@ const IS_EXPIRY: u32 = 0x401 * KIND;
 const NO_KIND: u32 = 0x7ff * KIND;
 
 // The paper's table of events, in its order: the first entry is no kind's, and behind it is one for each.
-const EVENTS: [u32; 24] = [
+static EVENTS: [u32; 24] = [
     NO_KIND + 4 * SIZE,
     IS_SETUP_REQUEST + 10 * SIZE + A1 + D * SECOND + Q * THIRD + OR_WITH_SLOTS,
     IS_SETUP_RESPONSE + 4 * SIZE,
@@ -139,9 +128,6 @@ const EVENTS: [u32; 24] = [
     IS_RESUME + 4 * SIZE,
     IS_EXPIRY + 6 * SIZE + N,
 ];
-
-// The last of its entries.
-const LAST: usize = 23;
 
 // A letter: where its value goes, how many bytes it takes, and its least (0 or 1) and its most.
 const INTO: u32 = 0x10000000;
@@ -193,7 +179,7 @@ const INTO_SLOTS: u32 = (SLOTS as u32) * INTO;
 const UNUSED: u32 = BYTES;
 
 // The letters by number. Which numbers a timer may have is looked at when all are read.
-const LETTERS: [u32; 16] = [
+static LETTERS: [u32; 16] = [
     UNUSED,
     // a, first where it may not be 0.
     INTO_ADDRESS + 4 * BYTES + FROM_1 + 16777215,
@@ -229,18 +215,11 @@ const FIRST_OF_LINK: usize = REPORT_SENT as usize;
 
 const FIRST_OF_TIMERS: usize = EXPIRY as usize;
 
-// What stands for a timer in an event that brings none, and the place of a number that is no timer's.
+// What stands for a timer in an event that brings none.
 const SOME_TIMER: u32 = 301;
 
-const NO_TIMER: usize = 7;
-
-#[derive(Clone, Copy)]
-pub enum FlatRead {
-    Is(Flat),
-    Refused(Answer, u8),
-}
-
 // Which of the entries a kind could be: its family's first, and its number in the family.
+#[tactic(auto, unfolding(crate::specs::Reading::hint_of))]
 fn hint(family: u16) -> usize
     ensures value { result ≡ hint_of family }
     ensures upper_bound { result ≤ 22 }
@@ -253,86 +232,81 @@ fn hint(family: u16) -> usize
     }
 }
 
-fn wide(b: u8) -> u32
-    ensures value { result ≡ b }
-    ensures upper_bound { result < 256 }
-{
-    b as u32
-}
-
+#[tactic(auto, unfolding(records::specs::Bytes::number))]
 fn number_at(s: &[u8], at: usize, width: usize) -> u32
     requires { (0 < width) × (width ≤ 4) × ((width - 2) % 2 ≡ 0) × (at + width ≤ length s.now) × (length s.now ≤ 16) }
     ensures { result ≡ number width s.now at }
 {
-    let low = wide(s[at]);
-    if width == 1 {
-        return low;
+    match width {
+        1 => s[at] as u32,
+        2 => word_at(s, at) as u32,
+        _ => long_at(s, at),
     }
-    let word = low + 256 * wide(s[at + 1]);
-    if width == 2 {
-        return word;
-    }
-    word + 65536 * (wide(s[at + 2]) + 256 * wide(s[at + 3]))
 }
 
-// The values into their slots; the place of the first that is wrong, or 0.
-fn fill(letters: u32, v: &mut [u32; 9], s: &[u8]) -> u8
+// The values into their slots, or the place of the first that is wrong.
+fn fill(letters: u32, v: &mut [u32; 9], s: &[u8]) -> Result<(), Unreadable>
     requires { (letters < 0x100000) × (4 + total (spell 5 letters) ≡ length s.now) × (length s.now ≤ 16) × Under v.old caps }
-    ensures v_after { as_filled result v.new ≡ fill (spell 5 letters) v.old s.now 4 }
+    ensures v_after { as_filled result v.new ≡ filled (fill (spell 5 letters) v.old s.now 4) }
     ensures under { Under v.new caps }
 {
-    let mut left = letters;
     let mut at: usize = 4;
-    while left != 0 {
-        let k = (left % 16) as usize;
-        let l = LETTERS[k];
+    for letter in (Letters { left: letters }) {
+        let l = LETTERS[letter as usize];
         let width = (l / BYTES % 8) as usize;
         let x = number_at(s, at, width);
-        if x < l / FROM_1 % 2 {
-            return at as u8;
+        if x < l / FROM_1 % 2 || l % FROM_1 < x {
+            return Err(Unreadable::BadBody(at as u8));
         }
-        if l % FROM_1 < x {
-            return at as u8;
-        }
-        let slot = (l / INTO % 16) as usize;
-        v[slot] = x;
-        at = at + width;
-        left = left / 16;
+        v[(l / INTO % 16) as usize] = x;
+        at += width;
     }
-    0
+    Ok(())
 }
 
-fn timer_place(n: u32) -> usize
-    ensures { result ≡ timer_place n }
+// A timer by its number.
+#[tactic(auto, unfolding(crate::specs::Reading::timer_place))]
+fn timer_of(n: u32) -> Option<Timer>
+    ensures { option_map_or place result 7 ≡ timer_place n }
 {
     match n {
-        301 => T301,
-        302 => T302,
-        303 => T303,
-        306 => T306,
-        308 => T308,
-        310 => T310,
-        311 => T311,
-        _ => NO_TIMER,
+        301 => Some(Timer::T301),
+        302 => Some(Timer::T302),
+        303 => Some(Timer::T303),
+        306 => Some(Timer::T306),
+        308 => Some(Timer::T308),
+        310 => Some(Timer::T310),
+        311 => Some(Timer::T311),
+        _ => None,
     }
 }
 
 // An expiry's number by its timer.
-fn late_kind(timer: usize) -> u64
-    ensures { result ≡ late_kind timer }
+#[tactic(auto, unfolding(crate::specs::Reading::late_kind))]
+fn late_kind(timer: Timer) -> u64
+    ensures { result ≡ late_kind (place timer) }
 {
-    if timer == T308 {
-        return EXPIRY_308;
+    match timer {
+        Timer::T308 => EXPIRY_308,
+        Timer::T311 => EXPIRY_311,
+        _ => EXPIRY,
     }
-    if timer == T311 {
-        return EXPIRY_311;
-    }
-    EXPIRY
 }
 
-fn flat_by(kind: u64, timer: usize, v: &[u32; 9]) -> Flat
+// Another event's number stays.
+fn kind_with(kind: u64, timer: Timer) -> u64
+    ensures { result ≡ cond (eqb kind EXPIRY) (late_kind (place timer)) kind }
+{
+    if kind == EXPIRY {
+        late_kind(timer)
+    } else {
+        kind
+    }
+}
+
+fn flat_by(kind: u64, timer: Timer, v: &[u32; 9]) -> Flat
     requires { Under v.now caps }
-    ensures { result ≡ flat_by kind timer v.now }
+    ensures { result ≡ flat_by kind (place timer) v.now }
 {
     Flat {
         kind,
@@ -349,18 +323,21 @@ fn flat_by(kind: u64, timer: usize, v: &[u32; 9]) -> Flat
 }
 
 // Three or four letters with the slots behind them.
+#[tactic(auto, unfolding(crate::specs::Reading::with_slots))]
 fn with_slots(letters: u32) -> u32
     requires { letters < 0x10000 }
     ensures value { result ≡ with_slots letters }
     ensures upper_bound { result < 0x100000 }
 {
     if letters < FOURTH {
-        return letters + S_FOURTH;
+        letters + S_FOURTH
+    } else {
+        letters + S_FIFTH
     }
-    letters + S_FIFTH
 }
 
 // A body with the slots, where the event may have them.
+#[tactic(auto, unfolding(crate::specs::Reading::one_more))]
 fn one_more(entry: u32, size: usize, short: usize) -> bool
     requires { short < 16 }
     ensures { result ≡ one_more entry size short }
@@ -368,28 +345,30 @@ fn one_more(entry: u32, size: usize, short: usize) -> bool
     (OR_WITH_SLOTS <= entry) & (size == short + 1)
 }
 
-// The letters of a body of some size; more than any where the event has no body of that size.
-fn letters_for(entry: u32, size: usize) -> u32
-    ensures { result ≡ letters_for entry size }
+// The letters of a body of some size, if the event has one of that size.
+#[tactic(auto, unfolding(crate::specs::Reading::letters_for))]
+fn letters_for(entry: u32, size: usize) -> Option<u32>
+    ensures value { unwrap_or result 0x100000 ≡ letters_for entry size }
+    ensures upper_bound { IfSome result (λ l. l < 0x100000) }
 {
     let short = (entry / SIZE % 16) as usize;
     if size == short {
-        return entry % SIZE;
+        return Some(entry % SIZE);
     }
     if one_more(entry, size, short) {
-        return with_slots(entry % SIZE);
+        return Some(with_slots(entry % SIZE));
     }
-    NO_BODY
+    None
 }
 
-fn read_body(entry: u32, kind: u64, call: Call, s: &[u8]) -> FlatRead
+#[tactic(auto, unfolding(crate::specs::Reading::flat_at))]
+fn read_body(entry: u32, kind: u64, call: Call, s: &[u8]) -> Result<Flat, Unreadable>
     requires { sized_well entry ≡ true }
-    ensures { as_flat_read result ≡ body_by entry kind call s.now }
+    ensures { as_read result ≡ body_by entry kind call s.now }
 {
-    let letters = letters_for(entry, s.len());
-    if letters == NO_BODY {
-        return FlatRead::Refused(Answer::BadBody, 2);
-    }
+    let Some(letters) = letters_for(entry, s.len()) else {
+        return Err(Unreadable::BadBody(2));
+    };
     let mut v: [u32; 9] = [
         call.id as u32,
         call.address,
@@ -401,42 +380,42 @@ fn read_body(entry: u32, kind: u64, call: Call, s: &[u8]) -> FlatRead
         SOME_TIMER,
         0,
     ];
-    let wrong = fill(letters, &mut v, s);
-    if wrong != 0 {
-        return FlatRead::Refused(Answer::BadBody, wrong);
-    }
-    let timer = timer_place(v[TIMER]);
-    if timer == NO_TIMER {
-        return FlatRead::Refused(Answer::BadBody, 4);
-    }
-    if kind == EXPIRY {
-        return FlatRead::Is(flat_by(late_kind(timer), timer, &v));
-    }
-    FlatRead::Is(flat_by(kind, timer, &v))
+    fill(letters, &mut v, s)?;
+    let Some(timer) = timer_of(v[TIMER]) else {
+        return Err(Unreadable::BadBody(4));
+    };
+    Ok(flat_by(kind_with(kind, timer), timer, &v))
 }
 
-fn read_kind(n: u16, call: Call, s: &[u8]) -> FlatRead
-    ensures { as_flat_read result ≡ kind_by n call s.now }
+// An entry by its place, if there is one.
+fn entry_at(events: &[u32], place: usize) -> Option<u32>
+    ensures { result ≡ slice_get events.now place }
+{
+    events.get(place).copied()
+}
+
+#[tactic(auto, unfolding(crate::specs::Reading::place_of))]
+fn read_kind(n: u16, call: Call, s: &[u8]) -> Result<Flat, Unreadable>
+    ensures { as_read result ≡ kind_by n call s.now }
 {
     if n == RETIRED {
-        return FlatRead::Refused(Answer::Retired, 0);
+        return Err(Unreadable::Retired);
     }
     let place = hint(n / 256 % 8) + (n % 256) as usize;
-    if LAST < place {
-        return FlatRead::Refused(Answer::UnknownKind, 0);
-    }
-    let entry = EVENTS[place];
+    let Some(entry) = entry_at(&EVENTS, place) else {
+        return Err(Unreadable::UnknownKind);
+    };
     if entry / KIND % 2048 != n as u32 {
-        return FlatRead::Refused(Answer::UnknownKind, 0);
+        return Err(Unreadable::UnknownKind);
     }
     read_body(entry, (place as u64) - 1, call, s)
 }
 
-pub fn read_flat(call: Call, s: &[u8]) -> FlatRead
-    ensures { as_flat_read result ≡ flatted call (read events s.now) }
+pub fn read_flat(call: Call, s: &[u8]) -> Result<Flat, Unreadable>
+    ensures { as_read result ≡ flatted call (read events s.now) }
 {
-    let Head::Kind(n) = kind_in(s) else {
-        return FlatRead::Refused(Answer::BadLength, 0);
+    let Some(kind) = kind_in(s) else {
+        return Err(Unreadable::BadLength);
     };
-    read_kind(n, call, s)
+    read_kind(kind, call, s)
 }

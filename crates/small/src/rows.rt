@@ -1,14 +1,13 @@
 // The row of an event from the table: where the call is and what holds, the first row that fits, and what that row says.
-ghost use Rattle.std.specs.Prelude.{◌≡◌, ◌<◌, ◌≤◌, ◌+◌, ◌*◌, ◌/◌, ◌%◌, ◌^◌, true, cond, not, leb, eqb};
+ghost use Rattle.std.specs.Prelude.{find, drop, ◌≡◌, ◌<◌, ◌≤◌, ◌/◌, ◌%◌, ◌^◌, true, cond, not, leb, eqb};
 ghost use Rattle.small.specs.Flat.{D_CONNECT_ACKNOWLEDGE, D_INFO, D_TX_INTERRUPT, EXPIRY};
-ghost use Rattle.small.specs.Table.{situation_of, facts_of, fits, first_of, rows};
-ghost use Rattle.small.specs.Line.{plane_by, asked_by, value_by, code_by, expired_by, mode_by, orders_by, row_by, table_row};
+ghost use Rattle.small.specs.Table.{bit, situation_of, facts_of, fits, rows};
+ghost use Rattle.small.specs.Line.{plane_by, asked_by, value_by, code_by, expired_by, orders_by, row_by, table_row};
 
 use crate::flat::{D_CONNECT_ACKNOWLEDGE, D_INFO, D_TX_INTERRUPT, EXPIRY, Flat};
 use crate::table::{
-    AFTER_G, ASKED, BIT_BROKEN, BIT_DISCONNECT, BIT_IDLE, BIT_MO, BIT_MT, BIT_RESTORING, BIT_UP,
-    BIT_WAIT, COUNT, EVENTS_G, EVENTS_SLOTS, GIVEN, GRANTED, GRANTED_OR_OFF, IF, IF_TALKING, KINDS,
-    NEEDED, NOT_ASKED, NOW_ASKED, ON, STORE_A_D, STORE_I, TOLD, row_at,
+    AFTER_G, ASKED, EVENTS_G, EVENTS_SLOTS, GIVEN, GRANTED, GRANTED_OR_OFF, IF, IF_TALKING, KINDS,
+    NEEDED, NOT_ASKED, NOW_ASKED, ON, ROWS, STORE_A_D, STORE_I, Situation, TOLD,
 };
 use callcontrol::call::{Call, Path, State, T301};
 use callcontrol::row::{EXPIRED_301, PLANE_1, Row, START_310, STOP_301, U_SETUP};
@@ -17,55 +16,40 @@ use callcontrol::rows::{
     slots_after,
 };
 
-// Where the call is, by the number of its bit in a row.
-pub fn situation(call: Call) -> usize
-    ensures result_value { 2 ^ result ≡ situation_of call }
-    ensures upper_bound { result < 64 }
+// Where the call is.
+fn situation(call: Call) -> Situation
+    ensures { 2 ^ bit result ≡ situation_of call }
 {
-    let state = call.state;
-    let path = call.path;
-    match state {
-        State::Idle => BIT_IDLE,
-        State::MoCallSetup => BIT_MO,
-        State::MtCallSetup => BIT_MT,
-        State::CallActive => match path {
-            Path::Up => BIT_UP,
-            Path::Broken => BIT_BROKEN,
-            Path::Restoring => BIT_RESTORING,
+    match call.state {
+        State::Idle => Situation::Idle,
+        State::MoCallSetup => Situation::Mo,
+        State::MtCallSetup => Situation::Mt,
+        State::CallActive => match call.path {
+            Path::Up => Situation::Up,
+            Path::Broken => Situation::Broken,
+            Path::Restoring => Situation::Restoring,
         },
-        State::Wait => BIT_WAIT,
-        State::CallDisconnect => BIT_DISCONNECT,
+        State::Wait => Situation::Wait,
+        State::CallDisconnect => Situation::Disconnect,
     }
 }
 
 // Whether a row is for this place, event and these facts.
-fn fits(row: u64, situation: usize, kind: u64, facts: &[bool; 8]) -> bool
-    requires { situation < 64 }
-    ensures { result ≡ fits (2 ^ situation) kind facts.now row }
+#[tactic(auto, unfolding(crate::specs::Table::fits))]
+fn fits(row: u64, situation: Situation, kind: u64, facts: &[bool; 8]) -> bool
+    ensures { result ≡ fits (2 ^ bit situation) kind facts.now row }
 {
-    if row / ON % KINDS == kind {
-        if (row >> situation) % 2 == 1 {
-            let guard = (row / IF) as usize;
-            return facts[guard];
-        }
-    }
-    false
+    row / ON % KINDS == kind && (row >> situation as usize) % 2 == 1 && facts[(row / IF) as usize]
 }
 
-// The first row that fits, or 0.
-pub fn found(situation: usize, kind: u64, facts: &[bool; 8]) -> u64
-    requires { situation < 64 }
-    ensures { result ≡ first_of (2 ^ situation) kind facts.now rows }
+// The first row that fits; none stands before the place of its event's number.
+fn found(rows: &[u64], situation: Situation, kind: u64, facts: &[bool; 8]) -> Option<u64>
+    ensures { result ≡ find (fits (2 ^ bit situation) kind facts.now) (drop kind rows.now) }
 {
-    let mut k = kind as usize;
-    while k < COUNT {
-        let row = row_at(k);
-        if fits(row, situation, kind, facts) {
-            return row;
-        }
-        k = k + 1;
-    }
-    0
+    rows.iter()
+        .copied()
+        .skip(kind as usize)
+        .find(|&row| fits(row, situation, kind, facts))
 }
 
 // Facts whose sense the event tells.
@@ -92,51 +76,50 @@ fn t301_suits(kind: u64, running: bool) -> bool
 fn suits(kind: u64, same: bool, other: bool, go: bool) -> bool
     ensures { result ≡ cond (eqb kind D_INFO) same (cond (eqb kind D_TX_INTERRUPT) other go) }
 {
-    if kind == D_INFO {
-        return same;
+    match kind {
+        D_INFO => same,
+        D_TX_INTERRUPT => other,
+        _ => go,
     }
-    if kind == D_TX_INTERRUPT {
-        return other;
-    }
-    go
 }
 
 // What rows ask for, by its number.
+#[tactic(auto, unfolding(crate::specs::Table::facts_of))]
 fn facts(call: Call, e: Flat) -> [bool; 8]
-    requires { e.timer < 7 }
     ensures { result ≡ facts_of call e }
 {
     let t = call.timers;
-    let k = e.timer;
+    let k = e.timer as usize;
     [
         runs_or_no_expiry(e.kind, t[k]),
         call.sent == 0,
         t301_suits(e.kind, t[T301]),
         (e.ask == 1) & ((call.asked == 0) & ((call.plane == 2) | (call.plane == 4))),
-        !(e.ask == 1) & (call.plane == 1),
-        !(e.ask == 1) & (call.asked == 1),
-        !(call.asked == e.ask),
+        (e.ask != 1) & (call.plane == 1),
+        (e.ask != 1) & (call.asked == 1),
+        call.asked != e.ask,
         suits(e.kind, e.mode == call.mode, e.value == 3, e.ask == 1),
     ]
 }
 
-// What a row says.
+// What a row says. The call and the event are the two things that a step is of: a struct of both would be made once, and taken apart in each
+// function.
 
 // By rule G, the same with off for 1 and 2, or the digit of a plane of row.rt.
+#[tactic(auto, unfolding(crate::specs::Line::plane_by))]
 fn plane_by(p: u64, grant: u8, mode: u8) -> u64
     requires { p < 16 }
     ensures value { result ≡ plane_by p grant mode }
     ensures upper_bound { result ≤ 0xF000 }
 {
-    if p == GRANTED {
-        return plane_granted(grant, mode);
+    match p {
+        GRANTED => plane_granted(grant, mode),
+        GRANTED_OR_OFF => plane_or_off(grant, mode),
+        _ => p * PLANE_1,
     }
-    if p == GRANTED_OR_OFF {
-        return plane_or_off(grant, mode);
-    }
-    p * PLANE_1
 }
 
+#[tactic(auto, unfolding(crate::specs::Line::asked_by))]
 fn asked_by(a: u64, call: Call, e: Flat) -> u8
     ensures { result ≡ asked_by a call e }
 {
@@ -152,63 +135,43 @@ fn asked_by(a: u64, call: Call, e: Flat) -> u8
 }
 
 // The event's g, its slots, or the number itself.
+#[tactic(auto, unfolding(crate::specs::Line::value_by))]
 fn value_by(v: u8, e: Flat) -> u8
     ensures { result ≡ value_by v e }
 {
-    if v == EVENTS_G {
-        return e.value;
+    match v {
+        EVENTS_G => e.value,
+        EVENTS_SLOTS => e.slots,
+        _ => v,
     }
-    if v == EVENTS_SLOTS {
-        return e.slots;
-    }
-    v
 }
 
 // A row that starts T310 stores the event's code; else r and o tell.
+#[tactic(auto, unfolding(crate::specs::Line::code_by))]
 fn code_by(n: u64, call: Call, e: Flat) -> u8
     ensures { result ≡ code_by n call e }
 {
-    if n / START_310 % 2 == 1 {
-        return e.code;
-    }
-    code_after(e.reset, e.code, call.code)
+    if_bit(n, START_310, e.code, code_after(e.reset, e.code, call.code))
 }
 
+#[tactic(auto, unfolding(crate::specs::Line::expired_by))]
 fn expired_by(e: Flat) -> u64
-    requires { e.timer < 7 }
     ensures value { result ≡ expired_by e }
     ensures upper_bound { result ≤ 0x700000000000 }
 {
     if EXPIRY <= e.kind {
-        return (e.timer as u64) * EXPIRED_301 + EXPIRED_301;
-    }
-    0
-}
-
-fn mode_by(n: u64, call: Call, e: Flat) -> u8
-    ensures { result ≡ mode_by n call e }
-{
-    if n / STORE_A_D % 2 == 1 {
-        e.mode
+        (e.timer as u64) * EXPIRED_301 + EXPIRED_301
     } else {
-        call.mode
+        0
     }
 }
 
-fn address_by(n: u64, call: Call, e: Flat) -> u32
-    ensures { result ≡ cond (eqb (n / 0x80000000000 % 2) 1) e.address call.address }
+// One value where a row has a bit, and else the other.
+fn if_bit<T: Copy>(n: u64, bit: u64, one: T, other: T) -> T
+    requires { 0 < bit }
+    ensures { result ≡ cond (eqb (n / bit % 2) 1) one other }
 {
-    if n / STORE_A_D % 2 == 1 {
-        e.address
-    } else {
-        call.address
-    }
-}
-
-fn id_by(n: u64, call: Call, e: Flat) -> u16
-    ensures { result ≡ cond (eqb (n / 0x40000000000 % 2) 1) e.id call.id }
-{
-    if n / STORE_I % 2 == 1 { e.id } else { call.id }
+    if n / bit % 2 == 1 { one } else { other }
 }
 
 // Of a row from U-PDU on, what is below asked: the messages; of a row from T301's STOP on, what is below what is stored: the timers.
@@ -217,25 +180,29 @@ const MESSAGES: u64 = ASKED / U_SETUP;
 const TIMERS: u64 = STORE_I / STOP_301;
 
 // The orders of row.rt are taken as they are, but for the digits of plane and asked.
+#[tactic(auto, unfolding(crate::specs::Line::orders_by))]
 fn orders_by(n: u64, call: Call, e: Flat) -> u64
-    requires { e.timer < 7 }
     ensures { result ≡ orders_by n call e }
 {
     expired_by(e)
         + (n % PLANE_1 + n / U_SETUP % MESSAGES * U_SETUP + n / STOP_301 % TIMERS * STOP_301)
-        + plane_by(n / PLANE_1 % 16, e.value, mode_by(n, call, e))
+        + plane_by(
+            n / PLANE_1 % 16,
+            e.value,
+            if_bit(n, STORE_A_D, e.mode, call.mode),
+        )
         + restarting(e.reset)
 }
 
+#[tactic(auto, unfolding(crate::specs::Line::row_by))]
 fn row_by(n: u64, call: Call, e: Flat) -> Row
-    requires { e.timer < 7 }
     ensures { result ≡ row_by n call e }
 {
     Row {
         orders: orders_by(n, call, e),
-        id: id_by(n, call, e),
-        address: address_by(n, call, e),
-        mode: mode_by(n, call, e),
+        id: if_bit(n, STORE_I, e.id, call.id),
+        address: if_bit(n, STORE_A_D, e.address, call.address),
+        mode: if_bit(n, STORE_A_D, e.mode, call.mode),
         asked: asked_by(n / ASKED % 8, call, e),
         code: code_by(n, call, e),
         slots: slots_after(e.slots, call.slots),
@@ -243,14 +210,11 @@ fn row_by(n: u64, call: Call, e: Flat) -> Row
     }
 }
 
-pub fn table_row(call: Call, e: Flat) -> Row
-    requires { e.timer < 7 }
+// The row of an event, if there is one.
+pub fn table_row(call: Call, e: Flat) -> Option<Row>
     ensures { result ≡ table_row call e }
 {
     let known = facts(call, e);
-    let n = found(situation(call), e.kind, &known);
-    if n == 0 {
-        return Row::none();
-    }
-    row_by(n, call, e)
+    let n = found(&ROWS, situation(call), e.kind, &known)?;
+    Some(row_by(n, call, e))
 }

@@ -2,9 +2,6 @@
 // must hold beside it, then the next state and the orders (of callcontrol's row.rt, as they are), what is stored and what is told. The
 // first row that fits is taken, so a row with a condition stands before the one without. What the event alone says is in no row: which
 // timer expired, whether T310 starts anew (r of D-INFO and D-CALL RESTORE), and the slots, which are stored where it brings some.
-ghost use Rattle.std.specs.Prelude.{◌≡◌, get_or};
-ghost use Rattle.small.specs.Table.{rows};
-
 use crate::flat::{
     BREAK, D_ALERT, D_CALL_PROCEEDING, D_CALL_RESTORE, D_CONNECT, D_CONNECT_ACKNOWLEDGE,
     D_DISCONNECT, D_INFO, D_RELEASE, D_SETUP, D_TX_CEASED, D_TX_CONTINUE, D_TX_GRANTED,
@@ -20,39 +17,35 @@ use callcontrol::row::{
     U_TX_CEASED, U_TX_DEMAND, UP, WAIT,
 };
 
-// Where the call is: a bit for each state, and in CALL-ACTIVE for each path. Bits 48 to 55.
-pub const AT_IDLE: u64 = 0x1000000000000;
+// Where the call is: its state, and in CALL-ACTIVE its path. The number is that of its bit in a row, by which a row is shifted: a division by
+// a number that the compiler does not know is slow.
+#[derive(Clone, Copy, Debug, PartialEq, Eq)]
+pub enum Situation {
+    Idle = 48,
+    Mo = 49,
+    Mt = 50,
+    Up = 51,
+    Broken = 52,
+    Restoring = 53,
+    Wait = 54,
+    Disconnect = 55,
+}
 
-pub const AT_MO: u64 = 0x2000000000000;
+pub const AT_IDLE: u64 = 1 << (Situation::Idle as u64);
 
-pub const AT_MT: u64 = 0x4000000000000;
+pub const AT_MO: u64 = 1 << (Situation::Mo as u64);
 
-pub const AT_UP: u64 = 0x8000000000000;
+pub const AT_MT: u64 = 1 << (Situation::Mt as u64);
 
-pub const AT_BROKEN: u64 = 0x10000000000000;
+pub const AT_UP: u64 = 1 << (Situation::Up as u64);
 
-pub const AT_RESTORING: u64 = 0x20000000000000;
+pub const AT_BROKEN: u64 = 1 << (Situation::Broken as u64);
 
-pub const AT_WAIT: u64 = 0x40000000000000;
+pub const AT_RESTORING: u64 = 1 << (Situation::Restoring as u64);
 
-pub const AT_DISCONNECT: u64 = 0x80000000000000;
+pub const AT_WAIT: u64 = 1 << (Situation::Wait as u64);
 
-// The numbers of these bits, by which a row is shifted: a division by a number that the compiler does not know is slow.
-pub const BIT_IDLE: usize = 48;
-
-pub const BIT_MO: usize = 49;
-
-pub const BIT_MT: usize = 50;
-
-pub const BIT_UP: usize = 51;
-
-pub const BIT_BROKEN: usize = 52;
-
-pub const BIT_RESTORING: usize = 53;
-
-pub const BIT_WAIT: usize = 54;
-
-pub const BIT_DISCONNECT: usize = 55;
+pub const AT_DISCONNECT: u64 = 1 << (Situation::Disconnect as u64);
 
 // Every state but IDLE and CALL-DISCONNECT, on every path.
 pub const AT_CALL: u64 = AT_MO + AT_MT + AT_UP + AT_BROKEN + AT_RESTORING + AT_WAIT;
@@ -206,11 +199,8 @@ pub const TELL_G: u64 = (EVENTS_G as u64) * TOLD;
 
 pub const TELL_S: u64 = (EVENTS_SLOTS as u64) * TOLD;
 
-// How many rows there are.
-pub const COUNT: usize = 38;
-
 // The rows, in the order of the events. Each event has a row, so its first one is not before the place of its own number.
-const ROWS: [u64; COUNT] = [
+pub static ROWS: [u64; 38] = [
     // User events.
     AT_IDLE
         + ON_SETUP_REQUEST
@@ -290,51 +280,3 @@ const ROWS: [u64; COUNT] = [
     AT_DISCONNECT + ON_EXPIRY_308 + CONFIRMED,
     AT_UP + ON_EXPIRY_311 + STAY + U_TX_CEASED + PLANE_OFF,
 ];
-
-// A row by its place, 0 behind the last. `ROWS[k]` would build the array on the stack at each use; of these arms the compiler makes one static
-// table.
-pub fn row_at(k: usize) -> u64
-    ensures { result ≡ get_or rows k 0 }
-{
-    match k {
-        0 => ROWS[0],
-        1 => ROWS[1],
-        2 => ROWS[2],
-        3 => ROWS[3],
-        4 => ROWS[4],
-        5 => ROWS[5],
-        6 => ROWS[6],
-        7 => ROWS[7],
-        8 => ROWS[8],
-        9 => ROWS[9],
-        10 => ROWS[10],
-        11 => ROWS[11],
-        12 => ROWS[12],
-        13 => ROWS[13],
-        14 => ROWS[14],
-        15 => ROWS[15],
-        16 => ROWS[16],
-        17 => ROWS[17],
-        18 => ROWS[18],
-        19 => ROWS[19],
-        20 => ROWS[20],
-        21 => ROWS[21],
-        22 => ROWS[22],
-        23 => ROWS[23],
-        24 => ROWS[24],
-        25 => ROWS[25],
-        26 => ROWS[26],
-        27 => ROWS[27],
-        28 => ROWS[28],
-        29 => ROWS[29],
-        30 => ROWS[30],
-        31 => ROWS[31],
-        32 => ROWS[32],
-        33 => ROWS[33],
-        34 => ROWS[34],
-        35 => ROWS[35],
-        36 => ROWS[36],
-        37 => ROWS[37],
-        _ => 0,
-    }
-}

@@ -3,6 +3,7 @@ pub mod Demands
 pub mod Determined
 pub mod Expiries
 pub mod Fates
+pub mod Flags
 pub mod Fronts
 pub mod Holding
 pub mod InTime

@@ -1,12 +1,17 @@
 -- What a START counts with: a table that is right has a length of 1 to 2^30 for each timer that a step starts.
 use Prim.Native.Nat.{ℕ, zero, suc, ◌+◌, ◌-◌, ◌<◌, ◌≤◌}
 use mathlib.Core.Path.{◌≡◌, refl, sym, ◌∙◌}
-use mathlib.Core.Bool.{Bool, true, false, not, ◌&&◌, ◌||◌}
+use mathlib.Core.Bool.{Bool, true, false, not, ◌&&◌, ◌||◌, and-true}
 use mathlib.Core.List.{List}
 use native.Mathlib.Omega.{arith}
-use borrow.Author.Tests.{eqb-true, eqb-false, leb-true, lt-ltb}
+use borrow.Author.Tests.{eqb-true, eqb-false, le-leb, leb-true, lt-ltb}
 use lib.Dec.{eqb, leb, lit<, lit≤}
-use lib.ListN.{length, get_or}
+use native.Mathlib.Numerals.{add-one}
+use lib.ListN.{length, get_or, take, drop, length-drop}
+use lib.Seq.{drop-cons}
+use Rattle.std.specs.List.{list_all}
+use Rattle.std.proofs.lemmas.List.Folds.{list_all_more}
+use Rattle.std.proofs.lemmas.List.{get_or-drop}
 use Rattle.records.specs.declared.messages.Message.TheVariants.{Stop, Start}
 use Rattle.records.specs.Letters.{is_timer, within}
 use Rattle.records.specs.Bodies.{flat_fits, all_fit}
@@ -72,6 +77,19 @@ timers_are table = refl
 limits_are : (table : List ℕ) → limits_right table ≡ all_from table 7 14
 unfolding limits_right
 limits_are table = refl
+
+-- what the code tests: the first six entries, and the fifteen from entry 7 on
+all_are : (table : List ℕ) (s n : ℕ) → s + suc n ≤ length table → list_all is_length (take (suc n) (drop s table)) ≡ all_from table s n
+all_are table s zero h = rw (drop-cons table s 0 (omega arith), and-true)
+all_are table s (suc n) h =
+    let room : suc n < length (drop s table) = omega (arith, length-drop s table) in
+    rw (← add-one (suc n), list_all_more is_length (drop s table) (suc n) 0 room, all_are table s n (omega arith), get_or-drop)
+
+pub table_is : (table : List ℕ) → 22 ≤ length table
+    → list_all is_length (take 6 table) && list_all is_length (take 15 (drop 7 table)) ≡ table_right table
+unfolding table_right
+table_is table h =
+    rw (le-leb 22 (length table) h, all_are table 0 5 (omega arith), all_are table 7 14 (omega arith), ← timers_are table, ← limits_are table)
 
 both_right : (table : List ℕ) → table_right table ≡ true → (timers_right table ≡ true) × (limits_right table ≡ true)
 unfolding table_right

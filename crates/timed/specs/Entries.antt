@@ -1,11 +1,14 @@
 -- The three entries over a set: each one's answers in their order, and what each gives back.
-use Rattle.std.specs.Prelude.{ℕ, ◌/◌, ◌%◌, Bool, false, cond, List, [], ◌∷◌, eqb}
+use Rattle.std.specs.Prelude.{ℕ, ◌/◌, ◌%◌, Bool, false, cond, List, [], ◌∷◌, eqb, Result, Ok, Err, IfErr, ◌≡◌}
 use Rattle.records.specs.declared.events.Event.{Event}
 use Rattle.records.specs.Tables.{Read, taken, refused, read, flat}
 use Rattle.records.specs.Events.{events}
 use Rattle.timers.specs.Wrap.{forward, is_back}
+use Rattle.callcontrol.specs.declared.step.Refusal.{Refusal as StepRefusal}
+use Rattle.callcontrol.specs.Step.{answer_number, place_in}
 use Rattle.demands.specs.Runs.{Turn, outcome}
 use Rattle.timed.specs.declared.set.Timed.{Timed}
+use Rattle.timed.specs.declared.set.Refusal.{Refusal}
 use Rattle.timed.specs.declared.set.Stepped.{Stepped}
 use Rattle.timed.specs.Set.{is_set, table_right, due_at, first_due, held_at, turned}
 
@@ -73,6 +76,32 @@ due_of t lengths reading buffer =
     (record { answer = 0; place = 0; timed = held_at t reading; count = 0; buffer = buffer })
     (of_turn 1 t lengths reading (turn_of (expiry_of (first_due t reading)) buffer)))
 
--- the code's result
-abbrev pub as_outcome : Stepped → List ℕ → Outcome
-as_outcome r buffer = record { answer = r.answer; place = r.place; timed = r.timed; count = r.count; buffer = buffer }
+-- a refusal's number, and the place that comes with it
+abbrev pub refusal_number : Refusal → ℕ
+refusal_number Refusal.NoSet = 1
+refusal_number Refusal.LengthOutOfRange = 31
+refusal_number Refusal.ReadingEarlier = 32
+refusal_number Refusal.TimerDue = 34
+refusal_number Refusal.ExpiryHandedIn = 35
+refusal_number (Refusal.OfStep e) = answer_number e
+
+abbrev pub refusal_place : Refusal → ℕ
+refusal_place Refusal.NoSet = 0
+refusal_place Refusal.LengthOutOfRange = 0
+refusal_place Refusal.ReadingEarlier = 0
+refusal_place Refusal.TimerDue = 0
+refusal_place Refusal.ExpiryHandedIn = 0
+refusal_place (Refusal.OfStep e) = place_in e
+
+-- the place with 0: 1 where a timer has expired
+abbrev pub place_of : Bool → ℕ
+place_of expired = cond expired 1 0
+
+-- the code's result, for the set that was handed in: a refusal counts 0 bytes and leaves that set
+abbrev pub as_outcome : Timed → Result Stepped Refusal → List ℕ → Outcome
+as_outcome t (Ok r) buffer = record { answer = 0; place = place_of r.expired; timed = r.timed; count = r.count; buffer = buffer }
+as_outcome t (Err e) buffer = refusal_at (refusal_number e) (refusal_place e) t buffer
+
+-- an unsound record is no set, so that the step never says it: each refusal of the code has a number and place of its own
+abbrev pub NotUnsound : Result Stepped Refusal → Type 0
+NotUnsound r = IfErr r (λ e. e ≡ Refusal.OfStep StepRefusal.NotSound → ⊥)

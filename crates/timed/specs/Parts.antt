@@ -1,47 +1,41 @@
 -- What the functions below the entries promise: the reading, the STARTs read back from the bytes that were written, and an event that was read.
-use Rattle.std.specs.Prelude.{ℕ, ◌≡◌, Bool, true, cond, List, ◌++◌, eqb}
+use Rattle.std.specs.Prelude.{ℕ, ◌≡◌, Bool, true, cond, List, eqb, Option, Some, None, Result, Ok, Err}
 use Rattle.records.specs.declared.events.Event.{Event}
 use Rattle.records.specs.declared.messages.Message.{Message}
 use Rattle.records.specs.Tables.{taken, read, flat, fine}
 use Rattle.records.specs.Events.{events}
-use Rattle.records.specs.Messages.{messages, message_bytes}
+use Rattle.records.specs.Messages.{messages}
 use Rattle.timers.specs.declared.bank.Bank.{Bank}
 use Rattle.timers.specs.Wrap.{forward, is_back}
 use Rattle.timers.specs.Bank.{advanced_to}
+use Rattle.callcontrol.specs.declared.call.Call.{Call}
 use Rattle.callcontrol.specs.Rows.{row_for}
 use Rattle.callcontrol.specs.Writing.{messages_in, bytes_of}
 use Rattle.callcontrol.specs.Step.{decided}
 use Rattle.demands.specs.Runs.{every?}
 use Rattle.timed.specs.declared.set.Timed.{Timed}
-use Rattle.timed.specs.declared.set.Stepped.{Stepped}
+use Rattle.timed.specs.declared.set.Refusal.{Refusal}
 use Rattle.timed.specs.declared.set.Ready.{Ready}
 use Rattle.timed.specs.Set.{is_set, table_right, due_at, first_due, started_by, started_all, with_flags}
 use Rattle.timed.specs.Entries.{Outcome, refusal_at}
 
--- the code's refusal
-abbrev pub refusing : ℕ → ℕ → Timed → Stepped
-refusing n place t = record { answer = n; place = place; count = 0; timed = t }
+-- a record and a bank on which the record's timers run
+abbrev pub joined : Call → Bank → Timed
+joined c b = record { call = c; bank = with_flags c.timers b }
 
--- a set that is not ready for a reading, with the number of the refusal
-abbrev pub not_ready : ℕ → Bank → Ready
-not_ready n b = record { answer = n; count = 0; first = 0; bank = b }
+-- the first of the timers that are due at a reading
+unfoldable pub first_at : Timed → ℕ → Option ℕ
+first_at t reading = cond (eqb (due_at t reading) 0) None (Some (first_due t reading))
 
--- 1, 31 and 32; else how many timers are due, the first of them, and the bank that has accepted the reading
-unfoldable pub ready_at : Timed → List ℕ → ℕ → Ready
+-- 1, 31 and 32; else the first timer that is due, and the set whose bank has accepted the reading
+unfoldable pub ready_at : Timed → List ℕ → ℕ → Result Ready Refusal
 ready_at t lengths reading =
     cond (is_set t)
     (cond (table_right lengths)
-    (cond (is_back (forward t.bank.last reading)) (not_ready 32 t.bank)
-    (record { answer = 0; count = due_at t reading; first = first_due t reading; bank = advanced_to t.bank reading }))
-    (not_ready 31 t.bank))
-    (not_ready 1 t.bank)
-
--- some bytes begin with those of a message whose fields are in range
-abbrev pub Front : List ℕ → Message → Type 0
-Front bytes m = (fine messages m ≡ true) × ((rest : List ℕ) × (bytes ≡ message_bytes m ++ rest))
-
-abbrev pub Begins : List ℕ → Type 0
-Begins bytes = (m : Message) × Front bytes m
+    (cond (is_back (forward t.bank.last reading)) (Err Refusal.ReadingEarlier)
+    (Ok (record { first = first_at t reading; timed = record { call = t.call; bank = advanced_to t.bank reading } })))
+    (Err Refusal.LengthOutOfRange))
+    (Err Refusal.NoSet)
 
 -- some bytes are those of such messages, one after the other
 abbrev pub Messages : List ℕ → List Message → Type 0
@@ -50,9 +44,9 @@ Messages bytes ms = (every? (λ m. fine messages m) ms ≡ true) × (bytes ≡ b
 abbrev pub AllMessages : List ℕ → Type 0
 AllMessages bytes = (ms : List Message) × Messages bytes ms
 
--- a bank after the START at the front of some bytes, and after all STARTs in them
+-- a bank after the START that some bytes are, and after all STARTs in them
 abbrev pub FirstDone : List ℕ → Bank → List ℕ → Bank → Type 0
-FirstDone lengths b bytes r = (m : Message) → Front bytes m → r ≡ started_by lengths b m
+FirstDone lengths b bytes r = (m : Message) → read messages bytes ≡ taken m → r ≡ started_by lengths b m
 
 abbrev pub AllDone : List ℕ → Bank → List ℕ → Bank → Type 0
 AllDone lengths b bytes r = (ms : List Message) → Messages bytes ms → r ≡ started_all lengths b ms

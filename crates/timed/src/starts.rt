@@ -1,47 +1,43 @@
 // The STARTs among the messages that a step has written, done on a bank.
-ghost use Rattle.std.specs.Prelude.{◌≡◌, ◌+◌, ◌≤◌, length};
-ghost use Rattle.records.specs.Bytes.{number};
-ghost use Rattle.timed.specs.Parts.{Begins, AllMessages, FirstDone, AllDone};
+ghost use Rattle.std.specs.Prelude.{◌≡◌};
+ghost use Rattle.timed.specs.Set.{started_by};
+ghost use Rattle.timed.specs.Parts.{AllMessages, FirstDone, AllDone};
 
+use records::fields::word_at;
+use records::messages::Message;
+use records::record::read;
 use timers::bank::Bank;
 
-// START's kind, 0602.
-const START: u16 = 0x0602;
-
-fn word_at(s: &[u8], at: usize) -> u16
-    requires { at + 2 ≤ length s.now }
-    ensures { result ≡ number 2 s.now at }
+// START sets a deadline, and no other message does.
+#[tactic(auto, unfolding(crate::specs::Set::started_by))]
+fn start_by(bank: Bank, lengths: &[u32], message: Message) -> Bank
+    ensures { result ≡ started_by lengths.now bank message }
 {
-    let low = s[at] as u16;
-    let high = s[at + 1] as u16;
-    low + 256 * high
+    match message {
+        Message::Start { timer, code } => bank.start(lengths, timer, code).unwrap_or(bank),
+        _ => bank,
+    }
 }
 
-// The message at the front of some bytes.
-fn start_first(bank: Bank, lengths: &[u32], rest: &[u8]) -> Bank
-    requires { Begins rest.now }
-    ensures { FirstDone lengths.now bank rest.now result }
+// The message that some bytes are.
+fn start_first(bank: Bank, lengths: &[u32], message: &[u8]) -> Bank
+    ensures { FirstDone lengths.now bank message.now result }
 {
-    if word_at(rest, 2) != START {
-        return bank;
+    match read(message) {
+        Ok(message) => start_by(bank, lengths, message),
+        Err(_) => bank,
     }
-    let timer = word_at(rest, 4);
-    let code = rest[6];
-    let ordered = bank.start(lengths, timer, code);
-    ordered.bank
 }
 
 // All of them.
+#[tactic(auto, using(crate::proofs::Fronts::fronts))]
 pub fn start_all(bank: Bank, lengths: &[u32], written: &[u8]) -> Bank
     requires { AllMessages written.now }
     ensures { AllDone lengths.now bank written.now result }
 {
-    let mut b = bank;
-    let mut at: usize = 0;
-    while at < written.len() {
-        let rest = &written[at..];
-        b = start_first(b, lengths, rest);
-        at += word_at(rest, 0) as usize;
+    if written.is_empty() {
+        return bank;
     }
-    b
+    let (message, rest) = written.split_at(word_at(written, 0) as usize);
+    start_all(start_first(bank, lengths, message), lengths, rest)
 }

@@ -1,6 +1,8 @@
 -- Taking the greatest key below a bound again and again gives each key once, the greatest first.
-use Rattle.std.proofs.Common.{◌≡◌, ℕ, zero, suc, ◌+◌, ◌<◌, ◌≤◌, max, cond, eqb, ltb, List, [], ◌∷◌, map, sym, refl, ap, ◌∙◌, subst, zero-le, arith, ltb-false, ltb-true, le-ltb, lt-ltb, ne_eqb, eqb-true}
-use Rattle.timers.specs.Due.{under, greater, one_if, below, number_of, handed}
+use Rattle.std.specs.Prelude.{count_by}
+use Rattle.timers.proofs.Sevens.{seven_items}
+use Rattle.std.proofs.Common.{◌≡◌, ℕ, zero, suc, true, false, not, Bool, get_or, length, arith, ◌+◌, ◌<◌, ◌≤◌, max, cond, eqb, ltb, List, [], ◌∷◌, map, sym, refl, ap, ◌∙◌, subst, zero-le, ltb-false, ltb-true, le-ltb, lt-ltb, ne_eqb, eqb-true}
+use Rattle.timers.specs.Due.{under, greater, one_if, count_of, below, number_of, handed}
 use Rattle.timers.proofs.Tests.{by_test, decide, All, weaken}
 
 -- the greatest of a key, where it is below a bound, and of one more
@@ -171,3 +173,19 @@ pub handed_is : (xs : List ℕ) → ((b : ℕ) → below b xs ≡ most b xs) →
 unfolding handed
 handed_is xs e zero b = refl
 handed_is xs e (suc n) b = rw (e b, handed_is xs e n (most b xs))
+
+-- how many are due, counted one by one
+pub count_not_zero : (keys : List ℕ) → length keys ≡ 7 → count_by (λ key. not (eqb key 0)) keys ≡ count_of keys
+unfolding count_of
+count_not_zero keys e =
+    let count = λ (l : List ℕ). count_by (λ key. not (eqb key 0)) l in
+    ap count (seven_items 0 keys e)
+    ∙ rw (one_not_zero (get_or keys 0 0), one_not_zero (get_or keys 1 0), one_not_zero (get_or keys 2 0), one_not_zero (get_or keys 3 0), one_not_zero (get_or keys 4 0), one_not_zero (get_or keys 5 0), one_not_zero (get_or keys 6 0))
+    (omega arith)
+  where
+    by_not : (b : Bool) → ◌≡◌ {A = ℕ} (cond (not b) 1 0) (cond b 0 1)
+    by_not true = refl
+    by_not false = refl
+
+    one_not_zero : (key : ℕ) → ◌≡◌ {A = ℕ} (cond (not (eqb key 0)) 1 0) (one_if key)
+    one_not_zero key = by_not (eqb key 0)

@@ -7,6 +7,7 @@ pub mod Holding
 pub mod Keys
 pub mod Pairs
 pub mod Indices
+pub mod Sevens
 pub mod Tests
 pub mod Witness
 pub mod Wrapping

@@ -1,6 +1,6 @@
 -- Looking at the keys by pairs, the greater first, finds the same.
-use Rattle.std.proofs.Common.{◌≡◌, ℕ, zero, suc, ◌<◌, ◌≤◌, ltb, List, get_or, sym, refl, ◌∙◌, arith, ltb-false, ltb-true, le-ltb, lt-ltb}
-use Rattle.timers.specs.Due.{under, greater, lesser, paired, Paired, below, handed}
+use Rattle.std.proofs.Common.{◌≡◌, ℕ, min, zero, suc, ◌<◌, ◌≤◌, ltb, List, get_or, sym, refl, ◌∙◌, arith, ltb-false, ltb-true, le-ltb, lt-ltb}
+use Rattle.timers.specs.Due.{under, greater, lesser, paired, below, handed}
 use Rattle.timers.proofs.Tests.{decide}
 use Rattle.timers.proofs.Keys.{greater_is}
 
@@ -24,13 +24,8 @@ by_size : (x y : ℕ) (P : ℕ → ℕ → Type 0) → (x < y → P y x) → (y 
 unfolding greater lesser
 by_size x y P f g = decide (ltb x y) (λ q. rw q (f (ltb-true x y q))) (λ q. rw q (g (ltb-false x y q)))
 
-low_high : (x y : ℕ) → lesser x y ≤ greater x y
-low_high x y = by_size x y (λ h l. l ≤ h) (λ k. omega arith) (λ k. k)
-
-paired_is : (keys : List ℕ) → Paired (paired keys)
-unfolding paired
-paired_is keys =
-    (low_high (get_or keys 0 0) (get_or keys 1 0), low_high (get_or keys 2 0) (get_or keys 3 0), low_high (get_or keys 4 0) (get_or keys 5 0))
+pub lesser_is : (x y : ℕ) → lesser x y ≡ min x y
+lesser_is x y = by_size x y (λ h l. l ≡ min x y) (λ k. omega arith) (λ k. omega arith)
 
 turned : (u v : ℕ) → greater u v ≡ greater v u
 turned u v = rw (greater_is u v, greater_is v u) (omega arith)
@@ -38,9 +33,6 @@ turned u v = rw (greater_is u v, greater_is v u) (omega arith)
 pair_same : (b x y : ℕ) → greater (under b (greater x y)) (under b (lesser x y)) ≡ greater (under b x) (under b y)
 pair_same b x y =
     by_size x y (λ h l. greater (under b h) (under b l) ≡ greater (under b x) (under b y)) (λ k. turned (under b y) (under b x)) (λ k. refl)
-
-pub paired_of : (keys : List ℕ) {r : List ℕ} → r ≡ paired keys → Paired r
-paired_of keys e = rw e (paired_is keys)
 
 below_paired : (b : ℕ) (keys : List ℕ) → below b (paired keys) ≡ below b keys
 unfolding below paired

@@ -1,19 +1,17 @@
 -- The bank of timers, on readings of a 32-bit counter: each call's answer, the next bank, and what is handed out.
-use Rattle.std.specs.Prelude.{ℕ, ◌+◌, ◌%◌, true, false, cond, List, [], ◌∷◌, ◌++◌, length, drop, ◌==◌, nat_le, nat_lt, slice_index, slice_set}
-use Rattle.timers.specs.declared.bank.Answer.{Answer}
+use Rattle.std.specs.Prelude.{ℕ, ◌+◌, ◌%◌, Option, None, Some, Result, Ok, Err, true, false, cond, List, [], ◌∷◌, ◌++◌, length, drop, ◌==◌, nat_le, nat_lt, slice_index, slice_set}
+use Rattle.timers.specs.declared.bank.Refusal.{Refusal}
 use Rattle.timers.specs.declared.bank.Bank.{Bank}
-use Rattle.timers.specs.declared.bank.Ordered.{Ordered}
 use Rattle.timers.specs.declared.bank.Advanced.{Advanced}
 use Rattle.timers.specs.Wrap.{forward, is_back}
 use Rattle.timers.specs.Due.{keys_of, count_of, handed, staying}
 
--- the code's answer as the paper's number
-abbrev pub answer_number : Answer → ℕ
-answer_number Answer.Taken = 0
-answer_number Answer.TimerUnknown = 30
-answer_number Answer.LengthOutOfRange = 31
-answer_number Answer.ReadingEarlier = 32
-answer_number Answer.ListShort = 33
+-- the code's refusal as the paper's number
+abbrev pub answer_number : Refusal → ℕ
+answer_number Refusal.TimerUnknown = 30
+answer_number Refusal.LengthOutOfRange = 31
+answer_number Refusal.ReadingEarlier = 32
+answer_number Refusal.ListShort = 33
 
 -- what comes back of a call: the answer's number, the next bank, the number of timers handed out, and the lent list then
 pub record Outcome : Type 0 where
@@ -30,11 +28,14 @@ refusal n b list = record { answer = n; bank = b; count = 0; list = list }
 abbrev pub ordered : Bank → Outcome
 ordered b = record { answer = 0; bank = b; count = 0; list = [] }
 
-abbrev pub as_ordered : Ordered → Outcome
-as_ordered r = record { answer = answer_number r.answer; bank = r.bank; count = 0; list = [] }
+-- the code's result of a call on a bank
+abbrev pub as_ordered : Bank → Result Bank Refusal → Outcome
+as_ordered b (Ok next) = ordered next
+as_ordered b (Err e) = refusal (answer_number e) b []
 
-abbrev pub as_advanced : Advanced → List ℕ → Outcome
-as_advanced r list = record { answer = answer_number r.answer; bank = r.bank; count = r.count; list = list }
+abbrev pub as_advanced : Bank → Result Advanced Refusal → List ℕ → Outcome
+as_advanced b (Ok r) list = record { answer = 0; bank = r.bank; count = r.count; list = list }
+as_advanced b (Err e) list = refusal (answer_number e) b list
 
 -- made with a first reading: no timer runs
 unfoldable pub new_bank : ℕ → Bank
@@ -52,6 +53,10 @@ index_of n =
     (cond (n == 302) 1
     (cond (n == 303) 2 (cond (n == 306) 3 (cond (n == 308) 4 (cond (n == 310) 5 (cond (n == 311) 6 7))))))
 
+-- as the code gives it
+abbrev pub index_given : ℕ → Option ℕ
+index_given index = cond (nat_lt index 7) (Some index) None
+
 -- its entry in the lent table: T301 T302 T303 T306 T308 T311, then T310's by code
 unfoldable pub entry_of : ℕ → ℕ → ℕ
 entry_of n code =
@@ -64,6 +69,10 @@ in_range length = cond (nat_le length 1073741824) length 0
 
 unfoldable pub length_in : List ℕ → ℕ → ℕ → ℕ
 length_in table n code = cond (nat_lt (entry_of n code) 22) (in_range (slice_index table (entry_of n code))) 0
+
+-- as the code gives it
+abbrev pub length_given : ℕ → Option ℕ
+length_given length = cond (length == 0) None (Some length)
 
 -- a timer stopped, and one started with a length from the last reading on
 abbrev pub without : Bank → ℕ → Bank

@@ -1,23 +1,13 @@
--- What came, what was written and what is in hand of both is a trace on its way at each turn. Nothing says that the input ends: the measure
--- is the count of turns.
-use Prim.Native.Nat.{◌+◌, ◌*◌, ◌≤◌, ◌^◌}
-use mathlib.Core.Path.{◌≡◌}
-use lib.ListN.{length, take, drop}
+-- What came, what was written and what is in hand of both is a trace on its way at each turn.
+use Rattle.std.proofs.Common.{◌+◌, ◌*◌, ◌≤◌, length}
 use Rattle.calltrace.specs.Trace.{Underway}
 use Rattle.calltrace.proofs.trace.Given as goal
 
-abbrev pub invariant-loop-turns : goal.invariant-loop-turns
-invariant-loop-turns l = record {
-  bytes_kept : length l.bytes ≡ length l.initial.bytes;
-  lines_kept : length l.lines ≡ length l.initial.lines;
-  at_in : l.at ≤ l.held;
-  held_in : l.held ≤ length l.bytes;
-  laid_in : l.laid ≤ length l.lines;
-  underway : Underway l.read l.written (drop l.at (take l.held l.bytes)) l.call (take l.laid l.lines);
-  read_most : l.read + 131072 * l.turns ≤ 2 ^ 63;
-  written_most : l.written + 65536 * l.turns ≤ 2 ^ 63;
-  turned : 2 ^ 46 ≤ l.read + l.written + l.turns;
+abbrev pub invariant-loop-turn : goal.invariant-loop-turn
+invariant-loop-turn l = record {
+  underway : Underway l.counts.read l.counts.written l.block l.call l.lines;
+  laid_most : length l.lines ≤ 65536;
+  read_most : l.counts.read ≤ 131072 * l._turn;
+  written_most : l.counts.written ≤ 65536 * l._turn;
+  turned : l._turn ≤ l.counts.read + l.counts.written;
 }
-
-abbrev pub decreases-loop-turns : goal.decreases-loop-turns
-decreases-loop-turns l = l.turns

@@ -1,28 +1,21 @@
--- Bytes that are no record are refused; else the step is taken, and packed where its answer is 0.
-use native.Mathlib.Omega.{arith}
-use Rattle.host_direct.proofs.Answers.{no_record, record_length, packs, leaves}
+-- Bytes that are no record are refused; else the step's record is packed, or its refusal told.
+use Rattle.std.proofs.Common.{arith, ◌∙◌}
+use Rattle.host_direct.proofs.Answers.{record_length, no_record, packs, leaves}
+use Rattle.host_direct.proofs.Packing.{packed_length}
 use Rattle.host_direct.proofs.Small.{step_small}
 use Rattle.host_direct.proofs.callcontrol_direct_step.Goals as goal
 
-pub returns-then-not-is_record : goal.returns-then-not-is_record
-returns-then-not-is_record c = no_record _ _ _ c.is_record.ensures c.if-not-is_record.true-raw
+pub returns-in_default : goal.returns-in_default
+returns-in_default c = no_record _ _ _ c.in_default.ensures
 
-pub held-requires : goal.held-requires
-held-requires c = record_length _ c.is_record.ensures c.if-not-is_record.false-raw
+pub copy_from_slice-requires : goal.copy_from_slice-requires
+copy_from_slice-requires c = rw (c.pack.ensures, packed_length) (record_length _ c.in-Some.ensures)
 
-pub overflow_cast-result-2 : goal.overflow_cast-result-2
-overflow_cast-result-2 c = omega (arith, step_small _ _ _ c.step-stepped.ensures)
+pub overflow_cast-result : goal.overflow_cast-result
+overflow_cast-result c = let h = step_small _ _ _ c.in-Ok.ensures in omega (arith, h)
 
-pub overflow_add-result-2 : goal.overflow_add-result-2
-overflow_add-result-2 c = omega (arith, step_small _ _ _ c.step-stepped.ensures)
+pub returns-in-Ok : goal.returns-in-Ok
+returns-in-Ok c = packs _ _ _ c.in-Some.ensures c.in-Ok.ensures (c.copy_from_slice.ensures.after ∙ c.pack.ensures)
 
-pub pack-requires : goal.pack-requires
-pack-requires c = record_length _ c.is_record.ensures c.if-not-is_record.false-raw
-
-pub returns-then-number-eq0 : goal.returns-then-number-eq0
-returns-then-number-eq0 c =
-    packs _ _ _ c.is_record.ensures c.if-not-is_record.false-raw c.held.ensures c.step-stepped.ensures c.answer_number-number.ensures.value
-    c.if-number-eq0.true c.pack.ensures
-
-pub returns-else-number-eq0 : goal.returns-else-number-eq0
-returns-else-number-eq0 c = leaves _ _ _ c.is_record.ensures c.if-not-is_record.false-raw c.held.ensures c.step-stepped.ensures c.answer_number-number.ensures.value c.if-number-eq0.false
+pub returns-in-Err : goal.returns-in-Err
+returns-in-Err c = leaves _ _ _ _ c.in-Some.ensures c.in-Err.ensures c.number.ensures.value c.place.ensures c.refused.ensures

@@ -1,16 +1,16 @@
 -- 5, then 6, then 8, then what the row orders.
-use mathlib.Core.Path.{◌∙◌, sym}
+use Rattle.std.proofs.Common.{◌∙◌, sym}
 use Rattle.small.proofs.Deciding.{by_other, by_none, by_over, by_orders}
 use Rattle.small.proofs.decide.Goals as goal
 
 pub returns-then-names_other : goal.returns-then-names_other
-returns-then-names_other c = rw c.refuse.ensures (by_other _ _ _ (sym (rw c.is_idle.ensures at c.names_other.ensures) ∙ c.if-names_other.true))
+returns-then-names_other c = by_other _ _ _ (sym c.names_other.ensures ∙ c.if-names_other.true)
 
-pub returns-then-row-eq0 : goal.returns-then-row-eq0
-returns-then-row-eq0 c = rw c.refuse-then-row-eq0.ensures (by_none _ _ _ _ (sym (rw c.is_idle.ensures at c.names_other.ensures) ∙ c.if-names_other.false) c.table_row-row.ensures c.if-row-eq0.true)
+pub returns-in_default : goal.returns-in_default
+returns-in_default c = by_none _ _ _ _ (sym c.names_other.ensures ∙ c.if-names_other.false) c.table_row.ensures c.in_default.is
 
-pub returns-then-over_flat : goal.returns-then-over_flat
-returns-then-over_flat c = rw c.refuse-then-over_flat.ensures (by_over _ _ _ _ (sym (rw c.is_idle.ensures at c.names_other.ensures) ∙ c.if-names_other.false) c.table_row-row.ensures c.if-row-eq0.false (sym c.over_flat.ensures ∙ c.if-over_flat.true))
+pub returns-then-is_over : goal.returns-then-is_over
+returns-then-is_over c = by_over _ _ _ _ (sym c.names_other.ensures ∙ c.if-names_other.false) c.table_row.ensures _ c.in-Some.is (sym c.is_over.ensures ∙ c.if-is_over.true)
 
 pub returns : goal.returns
-returns c = by_orders _ _ _ _ (sym (rw c.is_idle.ensures at c.names_other.ensures) ∙ c.if-names_other.false) c.table_row-row.ensures _ c.if-row-eq0.false (sym c.over_flat.ensures ∙ c.if-over_flat.false) c.carry_row.ensures
+returns c = by_orders _ _ _ _ (sym c.names_other.ensures ∙ c.if-names_other.false) c.table_row.ensures _ c.in-Some.is _ (sym c.is_over.ensures ∙ c.if-is_over.false) c.carry_row.ensures

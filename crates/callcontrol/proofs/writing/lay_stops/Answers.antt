@@ -1,14 +1,18 @@
--- None, or the seven orders one after the other.
-use mathlib.Core.Path.{◌∙◌, sym}
-use Rattle.callcontrol.proofs.Laying.{lay_then, lay_none, no_orders}
-use Rattle.callcontrol.specs.Writing.{by_number}
+-- None, or the orders one after the other.
+use Rattle.std.proofs.Common.{arith}
+use mathlib.Core.Path.{◌∙◌, refl, sym}
 use Rattle.records.specs.declared.messages.Message.{Message}
+use Rattle.callcontrol.proofs.Laying.{lay_none, no_orders, laid_further, laid_all}
 use Rattle.callcontrol.proofs.writing.lay_stops.Goals as goal
 
 pub returns-then-count_of-eq0 : goal.returns-then-count_of-eq0
-unfolding by_number
 returns-then-count_of-eq0 c = lay_none (no_orders Message.Stop _ (sym c.count_of.ensures.value ∙ c.if-count_of-eq0.true))
 
+pub loop-k-init : goal.loop-k-init
+loop-k-init c = lay_none refl
+
+pub loop-k-preserved : goal.loop-k-preserved
+loop-k-preserved c = laid_further Message.Stop _ c.args.flags c.loop-k.invariant c.lay_stop_if-at.ensures
+
 pub returns : goal.returns
-unfolding by_number
-returns c = lay_then c.lay_stop_if-at.ensures (lay_then c.lay_stop_if-at-2.ensures (lay_then c.lay_stop_if-at-3.ensures (lay_then c.lay_stop_if-at-4.ensures (lay_then c.lay_stop_if-at-5.ensures (lay_then c.lay_stop_if-at-6.ensures c.lay_stop_if.ensures)))))
+returns c = laid_all Message.Stop c.loop-k.k c.args.flags (omega arith) c.loop-k.invariant

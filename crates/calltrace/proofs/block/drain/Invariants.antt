@@ -1,12 +1,10 @@
--- Each turn passes a whole record, which has 4 bytes at least, and stores its line. The measure is what is left of the block.
-use Prim.Native.Nat.{◌≤◌, ◌-◌}
-use mathlib.Core.Path.{◌≡◌}
-use lib.ListN.{length, drop}
+-- Each turn passes a whole record, which has 4 bytes at least, and lays its line. The measure is what is left of the block.
+use Rattle.std.proofs.Common.{length}
 use Rattle.calltrace.specs.Block.{Traced}
 use Rattle.calltrace.proofs.block.drain.Given as goal
 
-abbrev pub invariant-loop-lines : goal.invariant-loop-lines
-invariant-loop-lines l = (length l.lines ≡ length l.initial.lines) × (l.at ≤ length l.s) × (l.laid ≤ length l.lines) × Traced (drop l.initial.at l.s) l.initial.call l.initial.lines l.initial.laid (drop l.at l.s) l.call l.laid l.lines
+abbrev pub invariant-loop-block : goal.invariant-loop-block
+invariant-loop-block l = Traced l.initial.block l.initial.call l.initial.lines l.block l.call l.lines
 
-abbrev pub decreases-loop-lines : goal.decreases-loop-lines
-decreases-loop-lines l = length l.s - l.at
+abbrev pub decreases-loop-block : goal.decreases-loop-block
+decreases-loop-block l = length l.block

@@ -1,10 +1,19 @@
--- By whether the question is of the call.
-use mathlib.Core.Path.{sym, ◌∙◌}
-use Rattle.channel.proofs.Asking.{one_laid, lays_reject, lays_nothing}
+-- Room after room.
+use Rattle.std.proofs.Common.{◌∙◌, arith, drop_of_length-le}
+use Rattle.callcontrol.specs.Writing.{lay_all}
+use Rattle.channel.proofs.Asking.{laid_on}
 use Rattle.channel.proofs.questions.reject.Goals as goal
+use Rattle.channel.proofs.questions.reject.Goals.{then-is_of_call, else-is_of_call}
 
-pub returns-then-of_call : goal.returns-then-of_call
-returns-then-of_call c = lays_reject _ _ (sym c.of_call.ensures ∙ c.if-of_call.true) (one_laid c.lay_message.ensures)
+pub loop-room-preserved : goal.loop-room-preserved
+loop-room-preserved c =
+    laid_on _ _ c.loop-room.room-index _ _ _ _ (omega arith)
+    (elim c.if-is_of_call.branch [
+      | then-is_of_call w ↦ rw (w.at-is, w.buffer-is, ← c.is_of_call.ensures, w.if-is_of_call.true) (rw w.answer.ensures at w.lay-at.ensures)
+      | else-is_of_call w ↦ rw (w.at-is, w.buffer-is, ← c.is_of_call.ensures, w.if-is_of_call.false)
+    ])
+    ∙ c.loop-room.invariant
 
 pub returns : goal.returns
-returns c = lays_nothing _ _ (sym c.of_call.ensures ∙ c.if-of_call.false)
+unfolding lay_all
+returns c = record { is = rw (drop_of_length-le c.args.rooms.rooms {i = c.loop-room.room-index} (omega arith)) at c.loop-room.invariant }

@@ -1,18 +1,27 @@
 -- The step is lent the buffer behind five bytes; where it writes, the record that names the place goes into those.
-use Rattle.console.proofs.Placing.{head_fits, unwritten, written, step_few}
+use Rattle.std.proofs.Common.{◌≡◌, refl, rules, arith, min, length}
+use Rattle.std.proofs.lemmas.Result.{err_from_is_err_and}
+use Rattle.console.proofs.Placing.{unwritten, written, step_few}
 use Rattle.console.proofs.console.place_step.Goals as goal
 
-pub slice_bounds-decide-count : goal.slice_bounds-decide-count
-slice_bounds-decide-count c = head_fits _ c.head_room-head.ensures
-
-pub slice_bounds-decide-start : goal.slice_bounds-decide-start
-slice_bounds-decide-start c = head_fits _ c.head_room-head.ensures
+pub returns-in_err-stepped : goal.returns-in_err-stepped
+returns-in_err-stepped c =
+    let p = err_from_is_err_and c.from_residual.result c.from_residual.ensures.1 in
+    let head : c.min-head.result ≡ min (length c.args.buffer.now) 5 = search rules in
+    rw (p.1, p.2) (unwritten c.args.k c.args.call c.args.event c.args.buffer.now head (rw c.in_err-stepped.was at c.decide.ensures) refl)
 
 pub returns-then-stepped-eq0 : goal.returns-then-stepped-eq0
-returns-then-stepped-eq0 c = unwritten _ _ _ _ c.head_room-head.ensures c.decide-stepped.ensures c.if-stepped-eq0.true
+returns-then-stepped-eq0 c =
+    let head : c.min-head.result ≡ min (length c.args.buffer.now) 5 = search rules in
+    unwritten c.args.k c.args.call c.args.event c.args.buffer.now head (rw c.in_ok-stepped.was at c.decide.ensures) c.if-stepped-eq0.true
 
-pub with_head-requires : goal.with_head-requires
-with_head-requires c = step_few c.args.k _ _ c.args.buffer.now c.head_room-head.ensures c.decide-stepped.ensures
+pub overflow_add-result : goal.overflow_add-result
+overflow_add-result c =
+    let head : c.min-head.result ≡ min (length c.args.buffer.now) 5 = search rules in
+    let few = step_few c.args.k c.args.call c.args.event c.args.buffer.now head (rw c.in_ok-stepped.was at c.decide.ensures) in
+    omega arith
 
 pub returns : goal.returns
-returns c = written _ _ _ _ c.head_room-head.ensures c.decide-stepped.ensures c.if-stepped-eq0.false c.with_head.ensures c.put_place.ensures
+returns c =
+    let head : c.min-head.result ≡ min (length c.args.buffer.now) 5 = search rules in
+    written c.args.k c.args.call c.args.event c.args.buffer.now head (rw c.in_ok-stepped.was at c.decide.ensures) c.if-stepped-eq0.false refl c.put_place.ensures

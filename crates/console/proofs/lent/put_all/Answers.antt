@@ -22,7 +22,7 @@ loop-k-preserved c =
     let p = c.loop-k.invariant in
     let e = c.step_at-passed.ensures in
     subst
-    (λ (z : List Call). Putting c.args.event c.args.own.now c.args.calls c.step_at-passed.new.own z c.step_at-passed.result (c.loop-k.k + 1))
+    (λ (z : List Call). Putting c.args.event c.args.own.now c.args.calls.now c.step_at-passed.new.own z c.step_at-passed.result (c.loop-k.k + 1))
     (sym e.0) (put_more p (omega arith) e.1)
 
 pub returns : goal.returns

@@ -1,12 +1,13 @@
 -- By whether an IDLE place was found.
-use borrow.Author.Tests.{lt-ltb, le-ltb}
+use Rattle.std.proofs.Common.{rules}
 use Rattle.console.specs.Keys.{at_idle_by}
+use Rattle.console.proofs.Found.{at_found, at_other}
 use Rattle.console.proofs.route.at_lowest_idle.Goals as goal
 
-pub returns-then-k-lt8 : goal.returns-then-k-lt8
+pub returns-in-Some : goal.returns-in-Some
 unfolding at_idle_by
-returns-then-k-lt8 c = rw (← c.idle_by-k.ensures, lt-ltb _ _ c.if-k-lt8.true)
+returns-in-Some c = at_found _ c.args.keys.each (search rules) _ c.lowest_idle.ensures _ c.in-Some.is
 
-pub returns : goal.returns
+pub returns-in-None : goal.returns-in-None
 unfolding at_idle_by
-returns c = rw (← c.idle_by-k.ensures, le-ltb _ _ c.if-k-lt8.false)
+returns-in-None c = at_other _ c.args.keys.each (search rules) _ c.lowest_idle.ensures c.in-None.is

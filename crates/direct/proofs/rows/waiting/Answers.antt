@@ -1,18 +1,21 @@
--- Each arm answers its event's row.
-use borrow.Author.Tests.{eq-eqb, ne_eqb, lt-ltb, le-ltb}
+-- Each arm sends what its row orders.
+use Rattle.std.proofs.Common.{◌+◌, refl, rules}
+use Rattle.direct.specs.Rows.{connected, released, again, exhausted}
+use Rattle.direct.proofs.Carried.{row_sent}
 use Rattle.direct.proofs.rows.waiting.Goals as goal
 
-pub returns-then-acceptable : goal.returns-then-acceptable
-returns-then-acceptable c = rw (c.in-DmConnect.is, ← c.acceptable.ensures, c.if-acceptable.true)
+pub returns-in-DmConnect : goal.returns-in-DmConnect
+unfolding connected
+returns-in-DmConnect c = row_sent _ _ (connected c.in-DmConnect.grade c.args.call) (search rules) refl c.send.ensures
 
-pub returns-then-timer-ne303 : goal.returns-then-timer-ne303
-returns-then-timer-ne303 c = rw (c.in-Expiry.is, ne_eqb _ _ c.if-timer-ne303.true)
+pub returns-in-DmConnect-2 : goal.returns-in-DmConnect-2
+unfolding released
+returns-in-DmConnect-2 c = row_sent _ _ (released c.args.call) (search rules) refl (rw c.fresh-in-DmConnect-2.ensures at c.send-in-DmConnect-2.ensures)
 
-pub returns-then-call : goal.returns-then-call
-returns-then-call c = rw (c.in-Expiry.is, eq-eqb _ _ c.if-timer-ne303.false, lt-ltb _ _ c.if-call.true)
+pub returns-in-Expiry-eq303 : goal.returns-in-Expiry-eq303
+unfolding again
+returns-in-Expiry-eq303 c = row_sent _ _ (again (c.args.call.used + 1) c.args.call) (search rules) refl c.send-in-Expiry-eq303.ensures
 
-pub returns-else-acceptable : goal.returns-else-acceptable
-returns-else-acceptable c = rw (c.in-DmConnect.is, ← c.acceptable.ensures, c.if-acceptable.false)
-
-pub returns-else-call : goal.returns-else-call
-returns-else-call c = rw (c.in-Expiry.is, eq-eqb _ _ c.if-timer-ne303.false, le-ltb _ _ c.if-call.false)
+pub returns-in-Expiry-eq303-2 : goal.returns-in-Expiry-eq303-2
+unfolding exhausted
+returns-in-Expiry-eq303-2 c = row_sent _ _ (exhausted c.args.call) (search rules) refl (rw c.fresh.ensures at c.send-in-Expiry-eq303-2.ensures)

@@ -1,26 +1,20 @@
--- Bytes that are no bank are refused; else the bank is asked, and packed where its answer is 0.
-use Rattle.host.proofs.BankAnswers.{no_bank, bank_length, packs, leaves}
-use Rattle.timers.specs.Bank.{stopped}
+-- Bytes that are no bank are refused; else the bank is asked.
+use mathlib.Core.Path.{◌≡◌, ◌∙◌, ap}
 use mathlib.Core.List.{[]}
-use native.Mathlib.Omega.{arith}
+use borrow.Author.Rules.{rules}
+use Rattle.timers.specs.Bank.{stopped, as_ordered, as_advanced}
+use Rattle.host.specs.Bank.{left_by}
+use Rattle.host.proofs.BankAnswers.{no_bank, bank_length, leaves}
 use Rattle.host.proofs.bank.callcontrol_bank_stop.Goals as goal
 
-pub returns-then-not-is_bank : goal.returns-then-not-is_bank
-returns-then-not-is_bank c = no_bank _ _ _ c.is_bank.ensures c.if-not-is_bank.true-raw
+pub returns-in_default : goal.returns-in_default
+returns-in_default c = no_bank _ _ _ c.in_default.ensures
 
-pub held_bank-requires : goal.held_bank-requires
-held_bank-requires c = bank_length _ c.is_bank.ensures c.if-not-is_bank.false-raw
+pub leave-requires-clause-whole : goal.leave-requires-clause-whole
+leave-requires-clause-whole c = bank_length _ c.in-Some.ensures
 
-pub pack_bank-requires : goal.pack_bank-requires
-pack_bank-requires c = bank_length _ c.is_bank.ensures c.if-not-is_bank.false-raw
-
-pub returns-then-number-eq0 : goal.returns-then-number-eq0
-returns-then-number-eq0 c =
-    let a = c.args in
-    packs _ [] (λ b. stopped b a.timer) c.is_bank.ensures c.if-not-is_bank.false-raw c.held_bank.ensures c.stop-ordered.ensures c.answer_number-number.ensures.value (omega arith)
-    c.if-number-eq0.true c.pack_bank.ensures
-
-pub returns-else-number-eq0 : goal.returns-else-number-eq0
-returns-else-number-eq0 c =
-    let a = c.args in
-    leaves _ [] (λ b. stopped b a.timer) c.is_bank.ensures c.if-not-is_bank.false-raw c.held_bank.ensures c.stop-ordered.ensures c.answer_number-number.ensures.value (omega arith) c.if-number-eq0.false
+pub returns : goal.returns
+returns c =
+    let b = c.in-Some.held in
+    let same : as_advanced b c.map.result [] ≡ as_ordered b c.stop.result = search rules in
+    leaves _ _ (λ b. stopped b c.args.timer) c.in-Some.ensures (c.leave.ensures b [] ∙ ap (left_by c.args.bank.now) (same ∙ c.stop.ensures))

@@ -1,22 +1,14 @@
--- The stores are those of the definition, byte after byte.
-use Rattle.records.specs.Bytes.{bytes}
-use lib.ListN.{length-set}
-use native.Mathlib.Numerals.{add-one, add-two, add-three}
+-- The four bytes are copied into their part.
+use Prim.Native.Nat.{◌+◌}
 use native.Mathlib.Omega.{arith}
+use mathlib.Core.Path.{◌≡◌, ◌∙◌}
+use Rattle.records.specs.Bytes.{bytes}
+use Rattle.records.proofs.Writing.{copied}
+use Rattle.host.proofs.Packing.{four_of}
+use Rattle.host.proofs.BankBytes.{four_bytes}
 use Rattle.host.proofs.bank.put_long.Goals as goal
 
-pub bounds-s-at-2 : goal.bounds-s-at-2
-bounds-s-at-2 c = simp length-set (omega arith)
-
-pub bounds-s-at-3 : goal.bounds-s-at-3
-bounds-s-at-3 c = simp length-set (omega arith)
-
-pub bounds-s-at-4 : goal.bounds-s-at-4
-bounds-s-at-4 c = simp length-set (omega arith)
-
-pub shape_of-s : goal.shape_of-s
-shape_of-s c = simp length-set
-
 pub returns : goal.returns
-unfolding bytes
-returns c = rw (add-one, add-two, add-three)
+returns c =
+    let four : c.to_le_bytes.result ≡ bytes 4 c.args.v = c.to_le_bytes.ensures ∙ four_of c.args.v in
+    rw (c.copy_from_slice.ensures.after, four) (copied c.args.out.now c.args.at (c.args.at + 4) (bytes 4 c.args.v) (omega (arith, four_bytes c.args.v)) (omega arith))

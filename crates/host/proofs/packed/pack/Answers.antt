@@ -1,8 +1,8 @@
--- Seven bytes, seven more and the last eight are the whole.
-use Rattle.records.specs.Bytes.{bytes}
-use Rattle.host.specs.Packing.{names, settings, running, packed}
+-- 22 bytes over 22.
+use mathlib.Core.Path.{◌∙◌, sym}
+use Rattle.host.proofs.Packing.{packed_long, whole_stored}
 use Rattle.host.proofs.packed.pack.Goals as goal
 
 pub returns : goal.returns
-unfolding packed names settings running bytes
-returns c = rw (c.put_running.ensures, c.put_settings.ensures, c.put_names.ensures)
+returns c =
+    c.copy_from_slice.ensures.after ∙ c.packed.ensures ∙ sym (whole_stored _ _ (c.requires ∙ sym (packed_long c.args.call)))

@@ -5,9 +5,9 @@ use Rattle.host.specs.SerialLine.{reader_freshened}
 use borrow.Author.Rules.{rules}
 use Rattle.host.proofs.serial.callcontrol_pieces_fresh.Goals as goal
 
-pub returns-then-reader-ne2 : goal.returns-then-reader-ne2
+pub returns-then-reader-ne-BYTES : goal.returns-then-reader-ne-BYTES
 unfolding reader_freshened
-returns-then-reader-ne2 c = rw (ne_eqb _ _ c.if-reader-ne2.true)
+returns-then-reader-ne-BYTES c = rw (ne_eqb _ _ c.if-reader-ne-BYTES.true)
 
 pub put_reader-requires : goal.put_reader-requires
 unfolding reader_freshened
@@ -15,4 +15,4 @@ put_reader-requires c = (search rules, rw c.fresh.ensures (omega arith))
 
 pub returns : goal.returns
 unfolding reader_freshened
-returns c = rw (eq-eqb _ _ c.if-reader-ne2.false, c.put_reader.ensures, c.fresh.ensures)
+returns c = rw (eq-eqb _ _ c.if-reader-ne-BYTES.false, c.put_reader.ensures, c.fresh.ensures)

@@ -1,44 +1,25 @@
 -- Bytes that are no sound table are refused; else the event goes where its bytes lead.
-use Prim.Native.Nat.{ℕ}
-use mathlib.Core.Path.{◌∙◌}
-use native.Mathlib.Omega.{arith}
-use Rattle.host_console.proofs.Tables.{no_table, known}
-use Rattle.host_console.proofs.Entry.{to_below, to_one, all_aimed, to_every, to_none}
+use Rattle.std.proofs.Common.{◌≡◌, ◌∙◌}
+use Rattle.console.specs.Route.{console_number, console_place}
+use Rattle.host.specs.Entries.{word}
+use Rattle.host_console.proofs.Tables.{no_table, known_table, whole}
 use Rattle.host_console.proofs.table.callcontrol_console_step.Goals as goal
 
-pub returns-then-not-read : goal.returns-then-not-read
-returns-then-not-read c =
+pub returns-in_default : goal.returns-in_default
+returns-in_default c =
     let a = c.args in
-    no_table a.table.now a.place a.event.now a.out.now c.table_keys-read.ensures c.if-not-read.true
+    no_table a.table.now a.place a.event.now a.out.now c.table_keys.result c.table_keys.ensures c.in_default.is
 
-pub to_place-requires : goal.to_place-requires
-to_place-requires c =
+pub returns-in-Ok : goal.returns-in-Ok
+returns-in-Ok c =
     let a = c.args in
-    let n = known a.table.now c.table_keys-read.ensures c.if-not-read.false in
-    record { k_bound = to_below a.table.now a.place a.event.now a.out.now n c.lead.ensures c.in-To.is; table_value = n.is_table_lem }
+    rw c.in-Ok.is at c.step_of.ensures
+    ∙ whole a.table.now a.place a.event.now a.out.now (known_table a.table.now c.in-Some.keys (rw c.in-Some.is at c.table_keys.ensures))
 
-pub to_all-requires : goal.to_all-requires
-to_all-requires c =
+pub returns-in-Err : goal.returns-in-Err
+returns-in-Err c =
     let a = c.args in
-    let n = known a.table.now c.table_keys-read.ensures c.if-not-read.false in
-    (all_aimed a.table.now a.place a.event.now a.out.now n c.lead.ensures c.in-Everywhere.is, n.is_table_lem)
-
-pub returns-in-To : goal.returns-in-To
-returns-in-To c =
-    let a = c.args in
-    let n = known a.table.now c.table_keys-read.ensures c.if-not-read.false in
-    c.to_place.ensures ∙ to_one a.table.now a.place a.event.now a.out.now n c.lead.ensures c.in-To.is
-
-pub returns-in-Everywhere : goal.returns-in-Everywhere
-returns-in-Everywhere c =
-    let a = c.args in
-    let n = known a.table.now c.table_keys-read.ensures c.if-not-read.false in
-    c.to_all.ensures ∙ to_every a.table.now a.place a.event.now a.out.now n c.lead.ensures c.in-Everywhere.is
-
-pub returns-in-Refused : goal.returns-in-Refused
-returns-in-Refused c =
-    let a = c.args in
-    let n = known a.table.now c.table_keys-read.ensures c.if-not-read.false in
-    to_none a.table.now a.place a.event.now a.out.now n c.lead.ensures
-    (λ (i : ℕ). omega (arith, c.slice_known-1.given i))
-    c.in-Refused.is c.console_number.ensures.value
+    let sum : c.refused.result ≡ word (console_number c.in-Err.refusal) (console_place c.in-Err.refusal) 0 = c.refused.ensures ∙ (λ i. word (c.number.ensures.value i) (c.place.ensures i) 0) in
+    (λ i. record { result = sum i; table = c.step_of.new.table; out = c.step_of.new.out })
+    ∙ rw c.in-Err.is at c.step_of.ensures
+    ∙ whole a.table.now a.place a.event.now a.out.now (known_table a.table.now c.in-Some.keys (rw c.in-Some.is at c.table_keys.ensures))

@@ -1,44 +1,44 @@
--- An arm knows its number, its body's size and what the fields before it hold, which is that line of the table; the last knows that no line
--- has the number.
+-- An arm knows its number, and what its record's size and the fields before it were found to be, which is that line of the table, or one of the two that have
+-- the number; the last knows that no line has it.
 use mathlib.Core.Path.{refl}
 use mathlib.Core.List.{[], ◌∷◌}
 use Rattle.records.specs.Events.{events, lower_kinds, report_sent, report_failed, break, resume, expiry}
 use Rattle.records.proofs.Reading.{end, then, wrong}
-use Rattle.records.proofs.Rows.{by_number_lem, other_size, bad, good, unknown}
+use Rattle.records.proofs.Rows.{wrong_size, wrong_field, right_body, unknown}
 use Rattle.records.proofs.events.read_lower.Goals as goal
 
-pub returns-then-s-ne4 : goal.returns-then-s-ne4
-returns-then-s-ne4 c = by_number_lem events _ report_sent _ c.in-769.is refl refl (other_size events report_sent _ c.if-s-ne4.true)
+pub returns-in_err-size_is-in-769 : goal.returns-in_err-size_is-in-769
+returns-in_err-size_is-in-769 c = wrong_size events _ report_sent _ c.in-769.is refl refl c.size_is.ensures c.in_err-size_is-in-769.was _ c.from_residual.ensures.1
 
-pub returns-then-s-ne4-2 : goal.returns-then-s-ne4-2
-returns-then-s-ne4-2 c = by_number_lem events _ report_failed _ c.in-770.is refl refl (other_size events report_failed _ c.if-s-ne4-2.true)
+pub returns-in_err-size_is-in-770 : goal.returns-in_err-size_is-in-770
+returns-in_err-size_is-in-770 c = wrong_size events _ report_failed _ c.in-770.is refl refl c.size_is-in-770.ensures c.in_err-size_is-in-770.was _ c.from_residual-in_err-size_is-in-770.ensures.1
 
-pub returns-then-s-ne4-3 : goal.returns-then-s-ne4-3
-returns-then-s-ne4-3 c = by_number_lem events _ break _ c.in-771.is refl refl (other_size events break _ c.if-s-ne4-3.true)
+pub returns-in_err-size_is-in-771 : goal.returns-in_err-size_is-in-771
+returns-in_err-size_is-in-771 c = wrong_size events _ break _ c.in-771.is refl refl c.size_is-in-771.ensures c.in_err-size_is-in-771.was _ c.from_residual-in_err-size_is-in-771.ensures.1
 
-pub returns-then-s-ne4-4 : goal.returns-then-s-ne4-4
-returns-then-s-ne4-4 c = by_number_lem events _ resume _ c.in-772.is refl refl (other_size events resume _ c.if-s-ne4-4.true)
+pub returns-in_err-size_is-in-772 : goal.returns-in_err-size_is-in-772
+returns-in_err-size_is-in-772 c = wrong_size events _ resume _ c.in-772.is refl refl c.size_is-in-772.ensures c.in_err-size_is-in-772.was _ c.from_residual-in_err-size_is-in-772.ensures.1
 
-pub returns-then-s-ne6 : goal.returns-then-s-ne6
-returns-then-s-ne6 c = by_number_lem events _ expiry _ c.in-1025.is refl refl (other_size events expiry _ c.if-s-ne6.true)
+pub returns-in_err-size_is-in-1025 : goal.returns-in_err-size_is-in-1025
+returns-in_err-size_is-in-1025 c = wrong_size events _ expiry _ c.in-1025.is refl refl c.size_is-in-1025.ensures c.in_err-size_is-in-1025.was _ c.from_residual-in_err-size_is-in-1025.ensures.1
 
-pub returns-in_default-word_in : goal.returns-in_default-word_in
-returns-in_default-word_in c = by_number_lem events _ expiry _ c.in-1025.is refl refl (bad events expiry _ c.if-s-ne6.false (wrong (rw c.in_default-word_in.is at c.word_in.ensures)))
+pub returns-in_err-timer-in-1025 : goal.returns-in_err-timer-in-1025
+returns-in_err-timer-in-1025 c = wrong_field events _ expiry _ c.in-1025.is refl refl c.size_is-in-1025.ensures c.in_ok-size_is-in-1025.was (wrong c.in_err-timer-in-1025.was c.word_in.ensures) _ c.from_residual-in_err-timer-in-1025.ensures.1
 
-pub returns-else-s-ne4 : goal.returns-else-s-ne4
-returns-else-s-ne4 c = by_number_lem events _ report_sent _ c.in-769.is refl refl (good events report_sent _ c.if-s-ne4.false end refl)
+pub returns-in_ok-size_is-in-769 : goal.returns-in_ok-size_is-in-769
+returns-in_ok-size_is-in-769 c = right_body events _ report_sent _ c.in-769.is refl refl c.size_is.ensures c.in_ok-size_is-in-769.was end refl
 
-pub returns-else-s-ne4-2 : goal.returns-else-s-ne4-2
-returns-else-s-ne4-2 c = by_number_lem events _ report_failed _ c.in-770.is refl refl (good events report_failed _ c.if-s-ne4-2.false end refl)
+pub returns-in_ok-size_is-in-770 : goal.returns-in_ok-size_is-in-770
+returns-in_ok-size_is-in-770 c = right_body events _ report_failed _ c.in-770.is refl refl c.size_is-in-770.ensures c.in_ok-size_is-in-770.was end refl
 
-pub returns-else-s-ne4-3 : goal.returns-else-s-ne4-3
-returns-else-s-ne4-3 c = by_number_lem events _ break _ c.in-771.is refl refl (good events break _ c.if-s-ne4-3.false end refl)
+pub returns-in_ok-size_is-in-771 : goal.returns-in_ok-size_is-in-771
+returns-in_ok-size_is-in-771 c = right_body events _ break _ c.in-771.is refl refl c.size_is-in-771.ensures c.in_ok-size_is-in-771.was end refl
 
-pub returns-else-s-ne4-4 : goal.returns-else-s-ne4-4
-returns-else-s-ne4-4 c = by_number_lem events _ resume _ c.in-772.is refl refl (good events resume _ c.if-s-ne4-4.false end refl)
+pub returns-in_ok-size_is-in-772 : goal.returns-in_ok-size_is-in-772
+returns-in_ok-size_is-in-772 c = right_body events _ resume _ c.in-772.is refl refl c.size_is-in-772.ensures c.in_ok-size_is-in-772.was end refl
 
-pub returns-in-Is : goal.returns-in-Is
-returns-in-Is c = by_number_lem events _ expiry _ c.in-1025.is refl refl (good events expiry _ c.if-s-ne6.false (then (rw c.in-Is.is at c.word_in.ensures) end) refl)
+pub returns-in_ok-timer-in-1025 : goal.returns-in_ok-timer-in-1025
+returns-in_ok-timer-in-1025 c = right_body events _ expiry _ c.in-1025.is refl refl c.size_is-in-1025.ensures c.in_ok-size_is-in-1025.was (then c.in_ok-timer-in-1025.was c.word_in.ensures end) refl
 
 pub returns-in_default : goal.returns-in_default
 returns-in_default c = unknown events _ (0x0301 ∷ 0x0302 ∷ 0x0303 ∷ 0x0304 ∷ 0x0401 ∷ []) lower_kinds _ refl c.in_default.in_default-own.rest

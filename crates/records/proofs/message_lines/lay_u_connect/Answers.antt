@@ -1,9 +1,7 @@
--- The bytes of the line are the message's.
-use Rattle.records.specs.Bytes.{bytes}
-use Rattle.records.specs.Bodies.{body_bytes, flat_size, flat_bytes, line_bytes}
-use Rattle.records.specs.Messages.{message_bytes}
+-- The body's bytes are those of the message's letters.
+use Rattle.records.specs.declared.messages.Message.{Message}
+use Rattle.records.proofs.Writing.{end, word_then, message_line}
 use Rattle.records.proofs.message_lines.lay_u_connect.Goals as goal
 
 pub returns : goal.returns
-unfolding bytes body_bytes flat_size flat_bytes line_bytes message_bytes
-returns c = c.lay_word.ensures
+returns c = rw (message_line (Message.UConnect c.args.id) (word_then c.to_le_bytes.ensures end)) at c.lay_record.ensures

@@ -1,85 +1,61 @@
 -- What is left of the letters is still to be filled in.
-use Prim.Native.Nat.{◌≤◌, ◌<◌, ◌/◌, ◌%◌}
-use mathlib.Core.Path.{◌≡◌, refl, sym, ◌∙◌}
+use Rattle.std.proofs.Common.{refl, sym, ap, ◌∙◌, ◌≤◌, get_or, arith}
 use native.Mathlib.Nat.{le_trans}
-use native.Mathlib.Omega.{arith}
-use lib.ListN.{get_or}
 use Rattle.small.specs.Entry.{spell}
-use Rattle.small.proofs.Letters.{no_letters}
-use Rattle.small.specs.Reading.{letters, slot_in, fill, caps}
-use Rattle.small.proofs.Slots.{a_letter, under_set, fill_first, total_first, too_low, too_high, in_range_lem}
-use borrow.Author.Rules.{rules}
+use Rattle.small.specs.Reading.{letters, slot_in, fill, filled, caps}
+use Rattle.small.proofs.Letters.{five, small_letter}
+use Rattle.small.proofs.Slots.{a_letter, under_set, total_first, too_low, too_high, in_range_lem, filled_first, none_to_fill}
 use Rattle.small.proofs.reading.fill.Goals as goal
+use Rattle.small.proofs.reading.fill.Goals.{then-x-l-via-then-x-l, then-x-l-via-else-x-l+then-l-x}
 
-pub loop-left-init : goal.loop-left-init
-loop-left-init c = (c.requires.0, omega arith, c.requires.1, c.requires.3, refl)
+pub loop-letter-init : goal.loop-letter-init
+loop-letter-init c =
+    rw (c.into_iter-letter-iterator.ensures.into_iter_gives, ← five c.args.letters c.requires.0)
+    (tt, tt, omega arith, c.requires.1, c.requires.3, refl)
+
+pub bounds-letter : goal.bounds-letter
+bounds-letter c = small_letter 8 c.loop-letter.letter-iterator.left c.in-Some.letter _ (c.in-Some.ensures {u = tt}).steps
 
 pub number_at-x-requires : goal.number_at-x-requires
 number_at-x-requires c =
-    let k = a_letter (c.loop-left.left % 16) (omega arith) in
-    let t = total_first c.loop-left.left c.loop-left.invariant.0 (omega arith) in
-    (k.some, k.few, k.even, omega (arith, t, c.loop-left.invariant.2), c.requires.2)
+    let l = c.in-Some.letter in
+    let first = (c.in-Some.ensures {u = tt}).steps in
+    let k = a_letter l (small_letter 8 c.loop-letter.letter-iterator.left l _ first) in
+    (k.some, k.few, k.even, omega (arith, rw first at c.loop-letter.invariant.3, total_first l (spell 8 c.next.new.self.left)), c.requires.2)
 
-pub overflow_cast-result : goal.overflow_cast-result
-overflow_cast-result c = omega (arith, c.loop-left.invariant.2, c.requires.2)
-
-pub returns-then-x-l : goal.returns-then-x-l
-returns-then-x-l c =
-    let a = c.args in
+pub returns-then-x-l-clause-v_after : goal.returns-then-x-l-clause-v_after
+returns-then-x-l-clause-v_after c =
+    let left = c.loop-letter in
     let n = c.number_at-x in
-    let e = get_or letters (c.loop-left.left % 16) 0 in (record {
-      v_after = too_low e c.loop-left.v a.s.now c.loop-left.at n.result _ n.ensures c.loop-left.invariant.1 c.if-x-l.true
-          ∙ sym (fill_first c.loop-left.left c.loop-left.v a.s.now c.loop-left.at c.loop-left.invariant.0 (omega arith))
-          ∙ c.loop-left.invariant.4;
-      under = c.loop-left.invariant.3;
-    })
+    let e = get_or letters c.in-Some.letter 0 in
+    let rest = filled_first c.in-Some.letter (spell 8 c.next.new.self.left) left.v c.args.s.now left.at ∙ rw (c.in-Some.ensures {u = tt}).steps at left.invariant.5 in
+    ap filled
+    (elim c.then-x-l.branch [
+      | then-x-l-via-then-x-l w ↦ too_low e left.v c.args.s.now left.at n.result _ n.ensures w.if-x-l.true ∙ rest
+      | then-x-l-via-else-x-l+then-l-x w ↦ too_high e left.v c.args.s.now left.at n.result _ n.ensures w.if-x-l.false w.if-l-x.true ∙ rest
+    ])
 
-pub overflow_cast-result-then-l-x : goal.overflow_cast-result-then-l-x
-overflow_cast-result-then-l-x c = omega (arith, c.loop-left.invariant.2, c.requires.2)
-
-pub returns-then-l-x : goal.returns-then-l-x
-returns-then-l-x c =
-    let a = c.args in
+pub loop-letter-preserved : goal.loop-letter-preserved
+loop-letter-preserved c =
+    let l = c.in-Some.letter in
+    let left = c.loop-letter in
+    let rest = spell 8 c.next.new.self.left in
+    let first = (c.in-Some.ensures {u = tt}).steps in
     let n = c.number_at-x in
-    let e = get_or letters (c.loop-left.left % 16) 0 in (record {
-      v_after = too_high e c.loop-left.v a.s.now c.loop-left.at n.result _ n.ensures c.loop-left.invariant.1 c.if-x-l.false c.if-l-x.true
-          ∙ sym (fill_first c.loop-left.left c.loop-left.v a.s.now c.loop-left.at c.loop-left.invariant.0 (omega arith))
-          ∙ c.loop-left.invariant.4;
-      under = c.loop-left.invariant.3;
-    })
-
-pub offset_bounds-v-slot : goal.offset_bounds-v-slot
-offset_bounds-v-slot c = search (rules, (a_letter (c.loop-left.left % 16) (omega arith)).place)
-
-pub bounds-v-slot : goal.bounds-v-slot
-bounds-v-slot c = search (rules, (a_letter (c.loop-left.left % 16) (omega arith)).place)
-
-pub overflow_add-at : goal.overflow_add-at
-overflow_add-at c = omega (arith, (a_letter (c.loop-left.left % 16) (omega arith)).few)
-
-pub loop-left-smaller : goal.loop-left-smaller
-loop-left-smaller c = omega arith
-
-pub loop-left-preserved : goal.loop-left-preserved
-loop-left-preserved c =
-    let a = c.args in
-    let n = c.number_at-x in
-    let e = get_or letters (c.loop-left.left % 16) 0 in
-    let k = a_letter (c.loop-left.left % 16) (omega arith) in
-    let some : 0 < c.loop-left.left = omega arith in
-    let t = total_first c.loop-left.left c.loop-left.invariant.0 some in
+    let e = get_or letters l 0 in
+    let k = a_letter l (small_letter 8 left.letter-iterator.left l _ first) in
     let room : n.result ≤ get_or caps (slot_in e) 0 = le_trans c.if-l-x.false k.room in (
+      tt,
+      tt,
       omega arith,
-      omega arith,
-      omega (arith, t, c.loop-left.invariant.2),
-      under_set c.loop-left.v caps c.loop-left.invariant.3 (slot_in e) n.result room,
-      sym (in_range_lem e c.loop-left.v a.s.now c.loop-left.at n.result (λ w next. fill (spell 5 (c.loop-left.left / 16)) w a.s.now next) n.ensures c.if-x-l.false c.if-l-x.false)
-          ∙ sym (fill_first c.loop-left.left c.loop-left.v a.s.now c.loop-left.at c.loop-left.invariant.0 some)
-          ∙ c.loop-left.invariant.4,
+      omega (arith, rw first at left.invariant.3, total_first l rest),
+      under_set left.v caps left.invariant.4 (slot_in e) n.result room,
+      sym (in_range_lem e left.v c.args.s.now left.at n.result (λ w next. fill rest w c.args.s.now next) n.ensures c.if-x-l.false c.if-l-x.false)
+          ∙ filled_first l rest left.v c.args.s.now left.at
+          ∙ rw first at left.invariant.5,
     )
 
-pub returns : goal.returns
-unfolding fill
-returns c =
-    let none : c.loop-left.left ≡ 0 = omega arith in
-    (record { v_after = rw (no_letters 5 c.loop-left.left none) at c.loop-left.invariant.4; under = c.loop-left.invariant.3 })
+pub returns-clause-v_after : goal.returns-clause-v_after
+returns-clause-v_after c =
+    let left = c.loop-letter in
+    ap filled (sym (none_to_fill _ left.v c.args.s.now left.at (c.in-None.ensures {u = tt}).steps.0) ∙ left.invariant.5)

@@ -1,40 +1,39 @@
 -- The size, the fields, the timer.
-use mathlib.Core.Path.{refl}
-use borrow.Author.Tests.{eq-eqb, ne_eqb}
-use lib.ListN.{length}
+use Rattle.std.proofs.Common.{rules, refl, length}
+use borrow.Author.Tests.{ne_eqb}
 use Rattle.small.specs.Reading.{flat_at}
-use Rattle.small.proofs.Answers.{wrong_size, wrong_field, all_right, fitting}
-use borrow.Author.Rules.{rules}
+use Rattle.records.proofs.Reading.{passed}
+use Rattle.small.proofs.Answers.{wrong_size, wrong_field, all_right, fitting, no_place}
 use Rattle.small.proofs.reading.read_body.Goals as goal
 
-pub returns-then-letters-eq-NO_BODY : goal.returns-then-letters-eq-NO_BODY
-returns-then-letters-eq-NO_BODY c = wrong_size _ _ _ _ _ c.letters_for-letters.ensures c.if-letters-eq-NO_BODY.true
+pub returns-in_default : goal.returns-in_default
+returns-in_default c = wrong_size _ _ _ _ _ c.letters_for.ensures.value c.in_default.is
 
-pub fill-wrong-requires : goal.fill-wrong-requires
-fill-wrong-requires c =
-    let a = c.args in
-    let w = fitting a.entry c.requires (length a.s.now) _ c.letters_for-letters.ensures c.if-letters-eq-NO_BODY.false in
-    (w.0, w.1, w.2, search rules)
+pub fill-requires : goal.fill-requires
+fill-requires c =
+    let l = c.in-Some.ensures {u = tt} in
+    let w = fitting c.args.entry c.requires (length c.args.s.now) c.in-Some.letters l.value l.upper_bound in
+    (l.upper_bound, w.0, w.1, search rules)
 
-pub returns-then-wrong-ne0 : goal.returns-then-wrong-ne0
-returns-then-wrong-ne0 c =
-    let a = c.args in
-    wrong_field a.entry a.kind a.call a.s.now _ c.letters_for-letters.ensures _ _ c.if-letters-eq-NO_BODY.false c.fill-wrong.ensures.v_after c.if-wrong-ne0.true
+pub returns-in_err-fill : goal.returns-in_err-fill
+returns-in_err-fill c =
+    rw (passed _ c.from_residual.ensures.1)
+    (wrong_field _ _ _ _ _ c.letters_for.ensures.value _ c.in-Some.is (c.in-Some.ensures {u = tt}).upper_bound _ _ (rw c.in_err-fill.was at c.fill.ensures.v_after))
 
-pub returns-then-timer-eq-NO_TIMER : goal.returns-then-timer-eq-NO_TIMER
+pub returns-in_default-timer_of : goal.returns-in_default-timer_of
 unfolding flat_at
-returns-then-timer-eq-NO_TIMER c =
+returns-in_default-timer_of c =
     let a = c.args in
-    rw (← all_right a.entry a.kind a.call a.s.now _ c.letters_for-letters.ensures _ _ c.if-letters-eq-NO_BODY.false c.fill-wrong.ensures.v_after c.if-wrong-ne0.false, ← c.timer_place-timer.ensures, eq-eqb _ _ c.if-timer-eq-NO_TIMER.true) refl
-
-pub returns-then-kind-eq-EXPIRY : goal.returns-then-kind-eq-EXPIRY
-unfolding flat_at
-returns-then-kind-eq-EXPIRY c =
-    let a = c.args in
-    rw (← all_right a.entry a.kind a.call a.s.now _ c.letters_for-letters.ensures _ _ c.if-letters-eq-NO_BODY.false c.fill-wrong.ensures.v_after c.if-wrong-ne0.false, ← c.timer_place-timer.ensures, ne_eqb _ _ c.if-timer-eq-NO_TIMER.false, eq-eqb _ _ c.if-kind-eq-EXPIRY.true, ← c.late_kind.ensures, c.flat_by.ensures) refl
+    let filled = rw c.in_ok-fill.was at c.fill.ensures.v_after in
+    let right = all_right a.entry a.kind a.call a.s.now _ c.letters_for.ensures.value _ c.in-Some.is (c.in-Some.ensures {u = tt}).upper_bound c.fill.new.v filled in
+    rw (← right, ← c.in_default-timer_of.ensures {u = tt}) refl
 
 pub returns : goal.returns
 unfolding flat_at
 returns c =
     let a = c.args in
-    rw (← all_right a.entry a.kind a.call a.s.now _ c.letters_for-letters.ensures _ _ c.if-letters-eq-NO_BODY.false c.fill-wrong.ensures.v_after c.if-wrong-ne0.false, ← c.timer_place-timer.ensures, ne_eqb _ _ c.if-timer-eq-NO_TIMER.false, ne_eqb _ _ c.if-kind-eq-EXPIRY.false, c.flat_by-2.ensures) refl
+    let timer = c.in-Some-timer_of.timer in
+    let is = c.in-Some-timer_of.ensures {u = tt} in
+    let filled = rw c.in_ok-fill.was at c.fill.ensures.v_after in
+    let right = all_right a.entry a.kind a.call a.s.now _ c.letters_for.ensures.value _ c.in-Some.is (c.in-Some.ensures {u = tt}).upper_bound c.fill.new.v filled in
+    rw (← right, ← is, ne_eqb _ 7 (no_place timer), c.flat_by.ensures, c.kind_with.ensures) refl

@@ -1,13 +1,12 @@
--- The first row that fits.
-use borrow.Author.Tests.{eq-eqb, ne_eqb}
-use mathlib.Core.Path.{sym}
-use Rattle.small.specs.Line.{table_row, row_or}
+-- No row fits, or the first that does.
+use Rattle.small.specs.Table.{rows}
+use Rattle.small.proofs.Scan.{no_row_fits, row_fits}
 use Rattle.small.proofs.rows.table_row.Goals as goal
 
-pub returns-then-n-eq0 : goal.returns-then-n-eq0
-unfolding table_row row_or
-returns-then-n-eq0 c = rw (sym (rw (c.situation.ensures.result_value, c.facts-known.ensures) at c.found-n.ensures), eq-eqb _ _ c.if-n-eq0.true) c.none.ensures
+pub returns-in_err-n : goal.returns-in_err-n
+unfolding rows
+returns-in_err-n c = rw c.from_residual.ensures (no_row_fits _ _ _ _ _ c.situation.ensures c.facts-known.ensures c.found.ensures c.in_err-n.was)
 
 pub returns : goal.returns
-unfolding table_row row_or
-returns c = rw (sym (rw (c.situation.ensures.result_value, c.facts-known.ensures) at c.found-n.ensures), ne_eqb _ _ c.if-n-eq0.false) c.row_by.ensures
+unfolding rows
+returns c = rw c.row_by.ensures (row_fits _ _ _ _ _ c.situation.ensures c.facts-known.ensures c.found.ensures _ c.in_ok-n.was)

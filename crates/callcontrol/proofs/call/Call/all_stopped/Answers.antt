@@ -1,8 +1,7 @@
--- The definition is what the code tests.
-use mathlib.Core.Path.{refl}
-use Rattle.callcontrol.specs.Call.{all_stopped}
+-- None of the seven runs.
+use Rattle.std.proofs.Common.{arith}
+use Rattle.callcontrol.proofs.Laying.{none_runs}
 use Rattle.callcontrol.proofs.call.Call.all_stopped.Goals as goal
 
 pub returns : goal.returns
-unfolding all_stopped
-returns c = refl
+returns c = rw c.contains.ensures.value (none_runs c.args.self (omega arith))

@@ -1,47 +1,33 @@
 -- 1, 31 and 32; then 34, what reading answers, 35, and what the event does.
-use mathlib.Core.Path.{sym, ap, ◌∙◌}
-use Rattle.records.specs.Events.{as_event_read}
-use Rattle.timed.specs.Entries.{step_of}
-use Rattle.timed.proofs.Answering.{accepting, not_ready_lem, is_sound, timer_due, unread, handed_in, stepped}
-use borrow.Enum.Refused.{opened}
+use Rattle.std.proofs.Common.{sym, ◌∙◌}
+use Rattle.std.proofs.lemmas.Result.{err_from_is_err_and}
+use Rattle.timed.proofs.Answering.{accepting, is_sound, some_is, none_is, timer_due, unread, handed_in, stepped}
 use Rattle.timed.proofs.set.Timed.step.Goals as goal
 
-pub returns-then-ready-ne0 : goal.returns-then-ready-ne0
-unfolding step_of
-returns-then-ready-ne0 c =
-    let r = c.ready-ready in
-    rw c.refuse.ensures (not_ready_lem _ _ _ r.result _ _ r.ensures c.if-ready-ne0.true)
+pub returns-then-is_some-clause-outcome : goal.returns-then-is_some-clause-outcome
+returns-then-is_some-clause-outcome c =
+    let a = accepting _ _ _ c.in_ok-ready.ready c.in_ok-ready.ensures in
+    let some = some_is _ (sym c.is_some.ensures ∙ c.if-is_some.true) in
+    timer_due _ _ _ _ _ _ a some.0 some.1
 
-pub returns-then-ready-ne0-2 : goal.returns-then-ready-ne0-2
-returns-then-ready-ne0-2 c =
-    let r = c.ready-ready in
-    let a = accepting _ _ _ r.result r.ensures c.if-ready-ne0.false in
-    rw c.refuse-then-ready-ne0-2.ensures (timer_due _ _ _ _ _ _ a c.if-ready-ne0-2.true)
+pub returns-in_err-event-clause-outcome : goal.returns-in_err-event-clause-outcome
+returns-in_err-event-clause-outcome c =
+    let a = accepting _ _ _ c.in_ok-ready.ready c.in_ok-ready.ensures in
+    let p = err_from_is_err_and c.from_residual-in_err-event.result c.from_residual-in_err-event.ensures.1 in
+    rw (p.1, p.2) (unread _ _ _ _ _ _ a _ c.in_err-event.ensures (none_is _ (sym c.is_some.ensures ∙ c.if-is_some.false)))
 
-pub returns-in_default : goal.returns-in_default
-returns-in_default c =
-    let r = c.ready-ready in
-    let a = accepting _ _ _ r.result r.ensures c.if-ready-ne0.false in
-    let e = c.read_event-read in
-    rw (c.refuse-in_default.ensures, c.place_in.ensures, c.answer_number.ensures.value, c.unread.ensures)
-    (unread _ _ _ _ _ _ a e.result (opened c.in_default.in_default-own.keys2) e.ensures c.if-ready-ne0-2.false)
-
-pub returns-then-is_expiry : goal.returns-then-is_expiry
-returns-then-is_expiry c =
-    let r = c.ready-ready in
-    let a = accepting _ _ _ r.result r.ensures c.if-ready-ne0.false in
-    let is = sym c.read_event-read.ensures ∙ ap as_event_read c.in-Is.is in
-    rw c.refuse-then-is_expiry.ensures (handed_in _ _ _ _ _ _ a _ is (sym c.is_expiry.ensures ∙ c.if-is_expiry.true) c.if-ready-ne0-2.false)
+pub returns-then-is_expiry-clause-outcome : goal.returns-then-is_expiry-clause-outcome
+returns-then-is_expiry-clause-outcome c =
+    let a = accepting _ _ _ c.in_ok-ready.ready c.in_ok-ready.ensures in
+    handed_in _ _ _ _ _ _ a _ c.in_ok-event.ensures (sym c.is_expiry.ensures ∙ c.if-is_expiry.true) (none_is _ (sym c.is_some.ensures ∙ c.if-is_some.false))
 
 pub take-requires : goal.take-requires
 take-requires c =
-    let r = c.ready-ready in
-    let a = accepting _ _ _ r.result r.ensures c.if-ready-ne0.false in
-    (is_sound _ _ _ a, (_, sym c.read_event-read.ensures ∙ ap as_event_read c.in-Is.is))
+    let a = accepting _ _ _ c.in_ok-ready.ready c.in_ok-ready.ensures in
+    (is_sound _ _ _ a, (_, sym c.in_ok-event.ensures))
 
-pub returns : goal.returns
-returns c =
-    let r = c.ready-ready in
-    let a = accepting _ _ _ r.result r.ensures c.if-ready-ne0.false in
-    let is = sym c.read_event-read.ensures ∙ ap as_event_read c.in-Is.is in
-    stepped _ _ _ _ _ _ a _ is (sym c.is_expiry.ensures ∙ c.if-is_expiry.false) c.if-ready-ne0-2.false c.take.ensures
+pub returns-clause-outcome : goal.returns-clause-outcome
+returns-clause-outcome c =
+    let a = accepting _ _ _ c.in_ok-ready.ready c.in_ok-ready.ensures in
+    stepped _ _ _ _ _ _ a _ _ _ c.in_ok-event.ensures (sym c.is_expiry.ensures ∙ c.if-is_expiry.false) (none_is _ (sym c.is_some.ensures ∙ c.if-is_some.false))
+    (c.take.ensures.outcome c.args.self.bank)

@@ -1,5 +1,0 @@
--- The two numbers are the paths'.
-use Rattle.callcontrol.proofs.call.Call.is_up.Goals as goal
-
-pub returns : goal.returns
-returns c = rw (c.path_number.ensures, c.path_number-2.ensures)

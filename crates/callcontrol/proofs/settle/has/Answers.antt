@@ -1,8 +1,0 @@
--- The definition is the test.
-use mathlib.Core.Path.{refl}
-use Rattle.callcontrol.specs.Settle.{has}
-use Rattle.callcontrol.proofs.settle.has.Goals as goal
-
-pub returns : goal.returns
-unfolding has
-returns c = refl

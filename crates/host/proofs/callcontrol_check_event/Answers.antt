@@ -1,7 +1,0 @@
--- What is answered is the word of what is read.
-use Rattle.host.specs.Entries.{checked}
-use Rattle.host.proofs.callcontrol_check_event.Goals as goal
-
-pub returns : goal.returns
-unfolding checked
-returns c = rw (c.event_word.ensures, c.read_event.ensures)

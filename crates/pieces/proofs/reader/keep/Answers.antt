@@ -1,7 +1,0 @@
--- The piece is copied, and counted.
-use Rattle.pieces.specs.Next.{kept}
-use Rattle.pieces.proofs.reader.keep.Goals as goal
-
-pub returns : goal.returns
-unfolding kept
-returns c = rw c.copy.ensures
