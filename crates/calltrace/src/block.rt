@@ -88,7 +88,8 @@ impl InputBlock {
     }
 }
 
-// Moves the bytes from `at` to `held` to the front, and answers how many they are.
+// Moves the bytes from `at` to `held` to the front, and answers how many they are. Not a method: what it promises is of the bytes,
+// and a method's contract tells a block by its value alone, the bytes that are left.
 #[tactic(auto, using(crate::proofs::Moved::moved))]
 fn keep_rest(bytes: &mut [u8], at: usize, held: usize) -> usize
     requires at_le_held { at ≤ held }

@@ -12,6 +12,7 @@ const LINE_MOST: usize = 31;
 // Room for the lines, so that few writes are needed.
 pub const LINE_ROOM: usize = 65536;
 
+// A line's five columns. All are printed whatever the answer is, so that none counts only beside some answers.
 #[derive(Clone, Copy, Debug, PartialEq, Eq)]
 pub struct Line {
     pub answer: u8,
@@ -166,6 +167,7 @@ impl LineBlock {
     }
 }
 
+// Not `Display`, which would go through `write!` (see `put_number`).
 fn name(state: State) -> &'static [u8]
     ensures value { result.now ≡ name_of state }
     ensures upper_bound { length result.now ≤ 15 }

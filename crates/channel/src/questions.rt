@@ -4,6 +4,7 @@ ghost use Rattle.callcontrol.specs.Writing.{Laid};
 ghost use Rattle.channel.specs.Questions.{channel_number, step_number, verdict_number, as_asked, as_decision, asked_of, decision_of, carried, as_outcome, taken, ask_of, asked_by, pdu_of, decide_of, rejects_in, ended_of};
 
 use crate::rooms::{Room, Rooms, Wait};
+use callcontrol::call::Call;
 use callcontrol::step::{Refusal, Stepped};
 use records::messages::{Message, message_size};
 use records::record::Record;
@@ -168,7 +169,7 @@ pub fn ask(
     if !rooms.are_sound() {
         return Err(ChannelRefusal::NotSound);
     }
-    if call > 16383 {
+    if call > Call::ID_MOST {
         return Err(ChannelRefusal::BadField);
     }
     let rule = rule_of(asked).ok_or(ChannelRefusal::BadField)?;
@@ -182,7 +183,7 @@ pub fn ask(
     }
 }
 
-// What is asked of an individually addressed PDU, by what the step gave for it.
+// What is asked of an individually addressed PDU, by what the step gave for it: a number, as `ask` takes and as `asked_by` of specs/ is.
 fn asked_by(stepped: Result<Stepped, Refusal>) -> u8
     ensures { result ≡ asked_by (step_number stepped) }
 {
@@ -249,7 +250,7 @@ pub fn ended(rooms: Rooms, call: u16, buffer: &mut [u8]) -> Result<Answered, Cha
     if !rooms.are_sound() {
         return Err(ChannelRefusal::NotSound);
     }
-    if call > 16383 {
+    if call > Call::ID_MOST {
         return Err(ChannelRefusal::BadField);
     }
     if buffer.len() < 7 * rooms.of_call(call) {

@@ -3,6 +3,8 @@ ghost use Rattle.std.specs.Prelude.{◌≡◌, ◌<◌, ◌≤◌, ◌&&◌};
 ghost use Rattle.std.specs.List.{position};
 ghost use Rattle.channel.specs.Rooms.{wait_number, is_free, has_number, waits_for, of_call, room_fits, free_room, fresh_rooms, some?, every?, apart_from, rooms_sound, freed, all_freed, count};
 
+use callcontrol::call::Call;
+
 // What a question waits for.
 #[derive(Clone, Copy, Debug, PartialEq, Eq)]
 pub enum Wait {
@@ -80,7 +82,7 @@ impl Room {
         if self.is_free() {
             self == Room::FREE
         } else {
-            self.call <= 16383
+            self.call <= Call::ID_MOST
         }
     }
 

@@ -19,6 +19,7 @@ pub fn key_of(call: Call, k: usize) -> u16
 // The key of each place.
 #[derive(Clone, Copy, Debug, PartialEq, Eq)]
 pub struct Keys {
+    // Plain numbers, 0 where no identifier is known yet: `key_of` of specs/Keys is a number, and what is promised of a table's keys is told by it.
     pub each: [u16; 8],
 }
 
@@ -26,6 +27,7 @@ impl Keys {
     // Above every identifier: the key of place 0 in IDLE.
     pub const IDLE: u16 = 16384;
 
+    // Eight calls stay an array: no function requires anything of all eight, so that a type of them would only be made and opened.
     pub fn of(calls: [Call; 8]) -> Self
         ensures { result.each ≡ keys_from 0 calls }
     {

@@ -16,6 +16,18 @@ use Rattle.records.proofs.letters.byte_fits.Reads as byte-fits-promise
 use Rattle.records.proofs.letters.slots_fit.Reads as slots-fit-promise
 use Rattle.records.proofs.letters.word_fits.Reads as word-fits-promise
 use Rattle.records.proofs.letters.long_fits.Reads as long-fits-promise
+use Rattle.records.proofs.lines.lay_record.Reads as lay-record-promise
+use Rattle.records.proofs.bodies.Unreadable.number.Reads as unreadable-number-promise
+use Rattle.records.proofs.bodies.Unreadable.place.Reads as unreadable-place-promise
+use Rattle.records.proofs.bodies.Unwritable.number.Reads as unwritable-number-promise
+use Rattle.records.proofs.fields.word_at.Reads as word-at-promise
+use Rattle.records.proofs.fields.long_at.Reads as long-at-promise
+use Rattle.records.proofs.fields.size_is.Reads as size-is-promise
+use Rattle.records.proofs.fields.size_with_slots.Reads as size-with-slots-promise
+use Rattle.records.proofs.fields.byte_in.Reads as byte-in-promise
+use Rattle.records.proofs.fields.slots_in.Reads as slots-in-promise
+use Rattle.records.proofs.fields.word_in.Reads as word-in-promise
+use Rattle.records.proofs.fields.long_in.Reads as long-in-promise
 use Rattle.callcontrol.proofs.step.step.Reads as step-promise
 use Rattle.callcontrol.proofs.step.decide.Reads as decide-promise
 use Rattle.callcontrol.proofs.step.RefusalFromUnreadable.from.Reads as unread-promise
@@ -68,6 +80,42 @@ word_fits κs a r₁ r₂ e₁ e₂ p q = p ∙ sym q
 
 pub long_fits : (κs : _) (a : _) (r₁ r₂ : _) (e₁ e₂ : _) → long-fits-promise.Learnt κs a r₁ e₁ → long-fits-promise.Learnt κs a r₂ e₂ → r₁ ≡ r₂
 long_fits κs a r₁ r₂ e₁ e₂ p q = p ∙ sym q
+
+pub lay_record : (size bound : _) (κs : _) (a : _) (r₁ r₂ : _) (e₁ e₂ : _) → lay-record-promise.Learnt size bound κs a r₁ e₁ → lay-record-promise.Learnt size bound κs a r₂ e₂ → ◌≡◌ {A = ℕ × List ℕ} (r₁, e₁.1.1.0.now) (r₂, e₂.1.1.0.now)
+lay_record size bound κs a r₁ r₂ e₁ e₂ p q = p ∙ sym q
+
+pub unreadable_number_lem : (κs : _) (a : _) (r₁ r₂ : _) (e₁ e₂ : _) → unreadable-number-promise.Learnt κs a r₁ e₁ → unreadable-number-promise.Learnt κs a r₂ e₂ → r₁ ≡ r₂
+unreadable_number_lem κs a r₁ r₂ e₁ e₂ p q = p.0 ∙ sym q.0
+
+pub unreadable_place_lem : (κs : _) (a : _) (r₁ r₂ : _) (e₁ e₂ : _) → unreadable-place-promise.Learnt κs a r₁ e₁ → unreadable-place-promise.Learnt κs a r₂ e₂ → r₁ ≡ r₂
+unreadable_place_lem κs a r₁ r₂ e₁ e₂ p q = p ∙ sym q
+
+pub unwritable_number_lem : (κs : _) (a : _) (r₁ r₂ : _) (e₁ e₂ : _) → unwritable-number-promise.Learnt κs a r₁ e₁ → unwritable-number-promise.Learnt κs a r₂ e₂ → r₁ ≡ r₂
+unwritable_number_lem κs a r₁ r₂ e₁ e₂ p q = p.0 ∙ sym q.0
+
+pub word_at : (κs : _) (a : _) (r₁ r₂ : _) (e₁ e₂ : _) → word-at-promise.Learnt κs a r₁ e₁ → word-at-promise.Learnt κs a r₂ e₂ → r₁ ≡ r₂
+word_at κs a r₁ r₂ e₁ e₂ p q = p ∙ sym q
+
+pub long_at : (κs : _) (a : _) (r₁ r₂ : _) (e₁ e₂ : _) → long-at-promise.Learnt κs a r₁ e₁ → long-at-promise.Learnt κs a r₂ e₂ → r₁ ≡ r₂
+long_at κs a r₁ r₂ e₁ e₂ p q = p ∙ sym q
+
+pub size_is : (κs : _) (a : _) (r₁ r₂ : _) (e₁ e₂ : _) → size-is-promise.Learnt κs a r₁ e₁ → size-is-promise.Learnt κs a r₂ e₂ → r₁ ≡ r₂
+size_is κs a r₁ r₂ e₁ e₂ p q = p ∙ sym q
+
+pub size_with_slots : (κs : _) (a : _) (r₁ r₂ : _) (e₁ e₂ : _) → size-with-slots-promise.Learnt κs a r₁ e₁ → size-with-slots-promise.Learnt κs a r₂ e₂ → r₁ ≡ r₂
+size_with_slots κs a r₁ r₂ e₁ e₂ p q = p ∙ sym q
+
+pub byte_in : (κs : _) (a : _) (r₁ r₂ : _) (e₁ e₂ : _) → byte-in-promise.Learnt κs a r₁ e₁ → byte-in-promise.Learnt κs a r₂ e₂ → r₁ ≡ r₂
+byte_in κs a r₁ r₂ e₁ e₂ p q = p ∙ sym q
+
+pub slots_in : (κs : _) (a : _) (r₁ r₂ : _) (e₁ e₂ : _) → slots-in-promise.Learnt κs a r₁ e₁ → slots-in-promise.Learnt κs a r₂ e₂ → r₁ ≡ r₂
+slots_in κs a r₁ r₂ e₁ e₂ p q = p ∙ sym q
+
+pub word_in : (κs : _) (a : _) (r₁ r₂ : _) (e₁ e₂ : _) → word-in-promise.Learnt κs a r₁ e₁ → word-in-promise.Learnt κs a r₂ e₂ → r₁ ≡ r₂
+word_in κs a r₁ r₂ e₁ e₂ p q = p ∙ sym q
+
+pub long_in : (κs : _) (a : _) (r₁ r₂ : _) (e₁ e₂ : _) → long-in-promise.Learnt κs a r₁ e₁ → long-in-promise.Learnt κs a r₂ e₂ → r₁ ≡ r₂
+long_in κs a r₁ r₂ e₁ e₂ p q = p ∙ sym q
 
 -- ---- callcontrol
 

@@ -15,12 +15,14 @@ use Rattle.direct.specs.declared.step.Stepped.{Stepped}
 use Rattle.direct.specs.declared.call.Call.{Call}
 use Rattle.direct.specs.declared.call.State.{State}
 use Rattle.direct.specs.declared.call.UnknownState.{UnknownState}
-use Rattle.direct.specs.Call.{state_number, StateOf}
+use Rattle.direct.specs.Call.{state_number as number_of, StateOf}
 use Rattle.direct.specs.Events.{events}
 use Rattle.direct.specs.Messages.{messages}
 use Rattle.direct.specs.Step.{Outcome, as_outcome}
 use Rattle.direct.proofs.call.Call.fresh.Reads as fresh-promise
 use Rattle.direct.proofs.call.Call.sound.Reads as sound-promise
+use Rattle.direct.proofs.call.U8FromState.from.Reads as state-number-promise
+use Rattle.direct.proofs.step.RefusalFromUnreadable.from.Reads as unread-promise
 use Rattle.direct.proofs.step.Refusal.number.Reads as number-promise
 use Rattle.direct.proofs.step.Refusal.place.Reads as place-promise
 use Rattle.direct.proofs.step.step.Reads as step-promise
@@ -90,19 +92,25 @@ number κs a r₁ r₂ e₁ e₂ p q = p.0 ∙ sym q.0
 pub place : (κs : _) (a : _) (r₁ r₂ : _) (e₁ e₂ : _) → place-promise.Learnt κs a r₁ e₁ → place-promise.Learnt κs a r₂ e₂ → r₁ ≡ r₂
 place κs a r₁ r₂ e₁ e₂ p q = p ∙ sym q
 
+pub unread : (κs : _) (a : _) (r₁ r₂ : _) (e₁ e₂ : _) → unread-promise.Learnt κs a r₁ e₁ → unread-promise.Learnt κs a r₂ e₂ → r₁ ≡ r₂
+unread κs a r₁ r₂ e₁ e₂ p q = p ∙ sym q
+
+pub state_number : (κs : _) (a : _) (r₁ r₂ : _) (e₁ e₂ : _) → state-number-promise.Learnt κs a r₁ e₁ → state-number-promise.Learnt κs a r₂ e₂ → r₁ ≡ r₂
+state_number κs a r₁ r₂ e₁ e₂ p q = p ∙ sym q
+
 -- the state of a number: no two states have the same
 state_back : ℕ → State
 state_back zero = State.Idle
 state_back (suc zero) = State.PresenceCheck
 state_back (suc (suc n)) = State.Active
 
-state_same : (s : State) → state_back (state_number s) ≡ s
+state_same : (s : State) → state_back (number_of s) ≡ s
 unfolding state_back
 state_same State.Idle = refl
 state_same State.PresenceCheck = refl
 state_same State.Active = refl
 
-number_small : (s : State) → state_number s ≤ 2
+number_small : (s : State) → number_of s ≤ 2
 number_small State.Idle = omega arith
 number_small State.PresenceCheck = omega arith
 number_small State.Active = omega arith

@@ -1,6 +1,6 @@
 // The record of an outgoing direct mode call, and what makes it sound.
 ghost use Rattle.std.specs.Prelude.{◌≡◌};
-ghost use Rattle.direct.specs.Call.{fresh_call, as_fresh, in_limits, sound, StateOf};
+ghost use Rattle.direct.specs.Call.{fresh_call, state_number, as_fresh, in_limits, sound, StateOf};
 
 // Where the call is. The numbers are those of a host's record.
 #[derive(Clone, Copy, Debug, PartialEq, Eq)]
@@ -11,6 +11,14 @@ pub enum State {
     PresenceCheck = 1,
     // CALL ACTIVE TX OCCUPATION: the called set has accepted.
     Active = 2,
+}
+
+impl From<State> for u8 {
+    ghost from_gives = { λ state number. number ≡ state_number state };
+
+    fn from(state: State) -> u8 {
+        state as u8
+    }
 }
 
 // A number that no state has.

@@ -69,14 +69,8 @@ pub struct Stepped {
 fn beyond(event: Event) -> bool
     ensures { result ≡ beyond event }
 {
-    match event {
-        Event::SetupRequest {
-            target,
-            lowest,
-            attempts,
-        } => attempts < Call::LIMIT_LEAST || Call::LIMIT_MOST < attempts || target < lowest,
-        _ => false,
-    }
+    matches!(event, Event::SetupRequest { target, lowest, attempts }
+        if attempts < Call::LIMIT_LEAST || Call::LIMIT_MOST < attempts || target < lowest)
 }
 
 // An event that was read, of a record that the caller has found sound.

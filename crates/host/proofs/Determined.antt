@@ -3,12 +3,14 @@
 use Prim.Native.Nat.{ℕ}
 use mathlib.Core.Path.{◌≡◌, sym, ◌∙◌}
 use mathlib.Core.List.{List, []}
+use Rattle.callcontrol.specs.Call.{fresh_call}
 use Rattle.host.specs.Entries.{Left}
 use Rattle.host.specs.SerialLine.{LeftByPiece}
 use Rattle.host.specs.Bank.{BankLeft}
 use Rattle.host.specs.Channel.{RoomsLeft}
 use Rattle.host.proofs.callcontrol_fresh.Reads as fresh-promise
 use Rattle.host.proofs.callcontrol_step.Reads as step-promise
+use Rattle.host.proofs.leave.Reads as leave-promise
 use Rattle.host.proofs.callcontrol_check_event.Reads as check-event-promise
 use Rattle.host.proofs.callcontrol_check_message.Reads as check-message-promise
 use Rattle.host.proofs.callcontrol_copy_event.Reads as copy-event-promise
@@ -34,6 +36,9 @@ fresh κs a r₁ r₂ e₁ e₂ p q = p ∙ sym q
 
 pub step : (κs : _) (a : _) (r₁ r₂ : _) (e₁ e₂ : _) → step-promise.Learnt κs a r₁ e₁ → step-promise.Learnt κs a r₂ e₂ → ◌≡◌ {A = Left} (record { result = r₁; call = e₁.0.now; out = e₁.1.1.0.now }) (record { result = r₂; call = e₂.0.now; out = e₂.1.1.0.now })
 step κs a r₁ r₂ e₁ e₂ p q = p ∙ sym q
+
+pub leave : (κs : _) (a : _) (r₁ r₂ : _) (e₁ e₂ : _) → leave-promise.Learnt κs a r₁ e₁ → leave-promise.Learnt κs a r₂ e₂ → ◌≡◌ {A = Left} (record { result = r₁; call = e₁.1.0.now; out = [] }) (record { result = r₂; call = e₂.1.0.now; out = [] })
+leave κs a r₁ r₂ e₁ e₂ p q = p fresh_call [] ∙ sym (q fresh_call [])
 
 pub check_event : (κs : _) (a : _) (r₁ r₂ : _) (e₁ e₂ : _) → check-event-promise.Learnt κs a r₁ e₁ → check-event-promise.Learnt κs a r₂ e₂ → r₁ ≡ r₂
 check_event κs a r₁ r₂ e₁ e₂ p q = p ∙ sym q

@@ -6,6 +6,7 @@ use mathlib.Core.List.{List}
 use borrow.Author.Tests.{leb-true}
 use lib.Dec.{leb, ltb, lit≤}
 use lib.ListN.{length}
+use Rattle.std.specs.Prelude.{Result, Ok, Err, IfOk}
 use Rattle.records.specs.declared.events.Event.{Event}
 use Rattle.records.specs.Records.{short}
 use Rattle.records.specs.Bodies.{Wrote, wrote, not_written, written}
@@ -15,7 +16,9 @@ use Rattle.callcontrol.specs.declared.call.Call.{Call}
 use Rattle.callcontrol.specs.Call.{sound}
 use Rattle.callcontrol.specs.Rows.{row_for}
 use Rattle.callcontrol.specs.Writing.{messages_in, bytes_of}
-use Rattle.callcontrol.specs.Step.{Outcome, refusal_at, other_call, over_transmission, carried, decided, when_read, step_of}
+use Rattle.callcontrol.specs.declared.step.Refusal.{Refusal}
+use Rattle.callcontrol.specs.declared.step.Stepped.{Stepped}
+use Rattle.callcontrol.specs.Step.{Outcome, as_outcome, refusal_at, other_call, over_transmission, carried, decided, when_read, step_of}
 use Rattle.callcontrol.proofs.Laying.{messages_small}
 use Rattle.demands.proofs.Facts.{right}
 
@@ -47,6 +50,13 @@ step_few c e b = either (sound c) (read_few (read events e) c b) none
 
 pub step_small : (c : Call) (e b : List ℕ) {o : Outcome} → o ≡ step_of c e b → o.count ≤ 122
 step_small c e b same = rw same (step_few c e b).few
+
+taken_small : (c : Call) (a : Result Stepped Refusal) (b : List ℕ) → (as_outcome c a b).count ≤ 122 → IfOk a (λ s. s.count ≤ 122)
+taken_small c (Ok s) b h = h
+taken_small c (Err e) b h = tt
+
+pub answered_small : (c : Call) (e b after : List ℕ) (a : Result Stepped Refusal) → as_outcome c a after ≡ step_of c e b → IfOk a (λ s. s.count ≤ 122)
+answered_small c e b after a same = taken_small c a after (step_small c e b same)
 
 -- ---- a record has 64 bytes at most
 

@@ -2,10 +2,11 @@
 // callcontrol_pieces_next returns answer * 2^24 + place * 2^16 + count; 4 alone has a place, the reader's.
 #![tactic(auto)]
 
-ghost use Rattle.std.specs.Prelude.{◌≡◌, List, ℕ};
+ghost use Rattle.std.specs.Prelude.{◌≡◌, List, ℕ, ◌≤◌, length, IfOk};
 ghost use Rattle.records.specs.Events.{events};
 ghost use Rattle.records.specs.Messages.{messages};
-ghost use Rattle.host.specs.Entries.{Left, freshened, host_step, read_word, checked, copied, copied_by};
+ghost use Rattle.callcontrol.specs.Step.{as_outcome};
+ghost use Rattle.host.specs.Entries.{Left, stepped, freshened, host_step, read_word, checked, copied, copied_by};
 
 pub mod bank;
 pub mod packed;
@@ -14,7 +15,7 @@ pub mod serial;
 
 use crate::packed::{ANSWER, BYTES, pack, refused, unpacked};
 use callcontrol::call::Call;
-use callcontrol::step::step;
+use callcontrol::step::{Refusal, Stepped, step};
 use records::events::Event;
 use records::messages::Message;
 use records::record::{Record, read, write};
@@ -54,6 +55,20 @@ pub fn callcontrol_fresh(call: &mut [u8]) -> u32
     BYTES as u32
 }
 
+// The result of a step, and its record into the bytes: a refused one leaves them as they are.
+pub fn leave(answered: Result<Stepped, Refusal>, call: &mut [u8]) -> u32
+    requires { (length call.old ≡ 22) × IfOk answered (λ s. s.count ≤ 122) }
+    ensures { (before : _) (out : List ℕ) → ◌≡◌ {A = Left} (record { result = result; call = call.new; out = out }) (stepped call.old (as_outcome before answered out)) }
+{
+    match answered {
+        Ok(stepped) => {
+            pack(stepped.call, call);
+            stepped.count as u32
+        }
+        Err(refusal) => refused(refusal.number(), refusal.place()),
+    }
+}
+
 // One step: the record goes on and the messages are in out, or nothing is changed.
 pub fn callcontrol_step(call: &mut [u8], event: &[u8], out: &mut [u8]) -> u32
     ensures { ◌≡◌ {A = Left} (record { result = result; call = call.new; out = out.new }) (host_step call.old event.now out.old) }
@@ -61,13 +76,7 @@ pub fn callcontrol_step(call: &mut [u8], event: &[u8], out: &mut [u8]) -> u32
     let Some(before) = unpacked(call) else {
         return ANSWER;
     };
-    match step(before, event, out) {
-        Ok(stepped) => {
-            pack(stepped.call, call);
-            stepped.count as u32
-        }
-        Err(refusal) => refused(refusal.number(), refusal.place()),
-    }
+    leave(step(before, event, out), call)
 }
 
 // What reading an event answers.

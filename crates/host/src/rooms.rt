@@ -18,7 +18,7 @@ const ROOM: usize = 5;
 // The greatest number of what a room waits for.
 const WAIT_MOST: u8 = 2;
 
-// 2 is the last that a room has; what is above it is Nobody. No TryFrom: `held_rooms` has tested the number, and this says what it stands for.
+// 2 is the last that a room has; what is above it is Nobody. No TryFrom: `held_room` gives a room for any five bytes, and which bytes are rooms is `is_rooms`'s.
 fn wait_is(n: u8) -> Wait
     ensures { result ≡ wait_is n }
 {
@@ -46,6 +46,7 @@ fn held_room(s: &[u8], at: usize) -> Room
 fn held_rooms(s: &[u8]) -> Option<Rooms>
     ensures { result ≡ cond (is_rooms s.now) (Some (record { rooms = held_rooms s.now })) None }
 {
+    // What each room waits for: a walk by ROOM would be no plainer than the four places.
     if s.len() != BYTES || !all_at_most(&[s[0], s[5], s[10], s[15]], WAIT_MOST) {
         return None;
     }
@@ -113,7 +114,7 @@ pub fn callcontrol_channel_ask(
     leave(ask(held, number, call, asked, out), rooms)
 }
 
-// What is asked of an individually addressed PDU, by what the step returned for it.
+// What is asked of an individually addressed PDU, by what the step returned for it: a number, as a host has it.
 fn asked_by(returned: u32) -> u8
     ensures { result ≡ asked_by (returned / ANSWER) }
 {

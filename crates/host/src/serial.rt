@@ -5,7 +5,7 @@ ghost use Rattle.pieces.specs.Next.{where_number, size_handed};
 ghost use Rattle.host.specs.SerialLine.{is_reader, reader_of, reader_bytes, found_word, reader_freshened, LeftByPiece, host_next};
 
 use crate::packed::{ANSWER, FLAG_MOST, PLACE, refused};
-use pieces::reader::{Found, Reader, Where};
+use pieces::reader::{Found, Reader, Where, where_number};
 
 // How many are carried, and whether the reader is stopped.
 const BYTES: usize = 2;
@@ -39,12 +39,11 @@ fn found_word(found: Found) -> u32
     requires { (size_handed found.handed ≤ 64) × (found.used ≤ 64) }
     ensures { result ≡ found_word 0 (where_number found.handed) (size_handed found.handed) found.used }
 {
-    let record = match found.handed {
+    let size = match found.handed {
         None => 0,
-        Some(Where::Carry(size)) => PLACE + size as u32 * 256,
-        Some(Where::Piece(size)) => 2 * PLACE + size as u32 * 256,
+        Some(Where::Carry(size) | Where::Piece(size)) => size,
     };
-    record + found.used as u32
+    where_number(found.handed) as u32 * PLACE + size as u32 * 256 + found.used as u32
 }
 
 // Writes the fresh reader; answer 1 where it has not 2 bytes.

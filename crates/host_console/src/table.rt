@@ -83,6 +83,7 @@ fn to_place(table: &mut [u8], k: usize, event: Event, out: &mut [u8]) -> Result<
 }
 
 // An event for every place: eight records are read and stepped, and written where the event is taken and all messages fit, up to the last that takes it.
+// That the event is for every place stays a clause, as at `turn` of console.
 fn to_all(table: &mut [u8], event: Event, out: &mut [u8]) -> Result<u32, ConsoleRefusal>
     requires { (aim_of event ≡ Aim.Every) × (is_table table.old ≡ true) }
     ensures { as_left result table.new out.new ≡ console_left table.old (everywhere (held_table table.old) event out.old) }

@@ -16,6 +16,8 @@ use direct::messages::Message;
 use direct::step::step;
 use records::record::{Record, read, write};
 
+// ANSWER, PLACE, `refused`, `check` and `copy` are host's once more: this archive is built and checked without host (docs/landings/request-14-direct.md).
+
 // A result is answer * ANSWER + place * PLACE + count, so that ANSWER alone is answer 1.
 const ANSWER: u32 = 16777216;
 

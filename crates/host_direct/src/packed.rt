@@ -39,7 +39,7 @@ pub fn pack(call: Call) -> [u8; 7]
     ensures { result ≡ packed call }
 {
     [
-        call.state as u8,
+        u8::from(call.state),
         call.target,
         call.lowest,
         call.limit,

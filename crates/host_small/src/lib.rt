@@ -5,7 +5,8 @@
 ghost use Rattle.std.specs.Prelude.{◌≡◌, List, ℕ};
 ghost use Rattle.host.specs.Entries.{Left, freshened, host_step};
 
-use host::packed::{ANSWER, pack, refused, unpacked};
+use host::leave;
+use host::packed::{ANSWER, unpacked};
 use small::small_step;
 
 // Writes the fresh record; answer 1 where it has not 22 bytes.
@@ -16,8 +17,7 @@ pub extern "C" fn callcontrol_fresh(call: &mut [u8]) -> u32
     host::callcontrol_fresh(call)
 }
 
-// One step: the record goes on and the messages are in out, or nothing is changed. It is host's with the other engine, written once more since
-// the edit refusal_without_its_answer tries this text.
+// One step: the record goes on and the messages are in out, or nothing is changed. It is host's with the other engine.
 #[unsafe(no_mangle)]
 pub extern "C" fn callcontrol_step(call: &mut [u8], event: &[u8], out: &mut [u8]) -> u32
     ensures { ◌≡◌ {A = Left} (record { result = result; call = call.new; out = out.new }) (host_step call.old event.now out.old) }
@@ -25,11 +25,5 @@ pub extern "C" fn callcontrol_step(call: &mut [u8], event: &[u8], out: &mut [u8]
     let Some(before) = unpacked(call) else {
         return ANSWER;
     };
-    match small_step(before, event, out) {
-        Ok(stepped) => {
-            pack(stepped.call, call);
-            stepped.count as u32
-        }
-        Err(refusal) => refused(refusal.number(), refusal.place()),
-    }
+    leave(small_step(before, event, out), call)
 }

@@ -6,6 +6,7 @@ ghost use Rattle.pieces.specs.Next.{fresh_reader, next_of, kept, handed_on, as_o
 use crate::front::front_of;
 
 // What a reader holds between two pieces; the carried bytes are at the front of the lent carry.
+// Not an Option of the count: a host's bytes may have a stopped reader that carries, and are packed again as they were (ReaderIsPacked of host).
 #[derive(Clone, Copy, Debug, PartialEq, Eq)]
 pub struct Reader {
     // 0 to 63.
@@ -48,7 +49,7 @@ pub struct Found {
     pub used: usize,
 }
 
-// The number of where a record is; 0 where nothing is handed on.
+// The number of where a record is; 0 where nothing is handed on. A match: two of the cases hold a size, so that `as` does not apply.
 pub fn where_number(handed: Option<Where>) -> u8
     ensures value { result ≡ where_number handed }
     ensures upper_bound { result < 3 }

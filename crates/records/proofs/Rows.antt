@@ -3,9 +3,9 @@ use mathlib.Core.Path.{◌≡◌, refl, sym, ◌∙◌}
 use mathlib.Core.Bool.{Bool, true, false, cond}
 use mathlib.Core.List.{List, [], ◌∷◌, ◌++◌}
 use mathlib.Core.Option.{none, some}
-use Prim.Native.Nat.{ℕ, ◌+◌}
+use Prim.Native.Nat.{ℕ, ◌+◌, ◌<◌, ◌≤◌}
 use native.Mathlib.Omega.{arith}
-use borrow.Author.Tests.{eq-eqb, ne_eqb, eqb-true}
+use borrow.Author.Tests.{eq-eqb, ne_eqb, eqb-true, eqb-false}
 use lib.Dec.{eqb}
 use lib.ListN.{length}
 use Rattle.records.specs.Bodies.{Values, size, body_of, kind_in, size_or_place}
@@ -70,6 +70,28 @@ module _ (t : Table) (ks : List t.Kind) (k : t.Kind) {n : ℕ} (s : List ℕ) (k
 
   pub right_body : {vs : Values (t.row_of k).letters} → r ≡ Ok tt → Good (t.row_of k).letters s 4 vs → t.agrees (t.value_of k vs) ≡ true → taken (t.value_of k vs) ≡ read_among t ks n s
   right_body was body agrees = of_one was (λ w. good t k s w body agrees)
+
+-- two kinds that have the number, the second one byte longer
+module _ (t : Table) (ks : List t.Kind) (k l : t.Kind) {n : ℕ} (s : List ℕ) (key : n ≡ (t.row_of k).number) (kn : known t (t.row_of k).number ks ≡ true) (two : find t (t.row_of k).number (length s) ks ≡ cond (eqb (length s) (size_of t k)) (some k) (cond (eqb (length s) (size_of t l)) (some l) none)) (longer : size_of t l ≡ size_of t k + 1) where
+  neither : (length s ≡ size_of t k → ⊥) → (length s ≡ size_of t l → ⊥) → refused 4 2 ≡ read_among t ks n s
+  unfolding read_among
+  neither other others = rw (key, kn, two, ne_eqb _ _ other, ne_eqb _ _ others)
+
+  pub under : length s < size_of t k → refused 4 2 ≡ read_among t ks n s
+  under h = neither (λ z. omega arith) (λ z. omega arith)
+
+  pub beyond : size_of t l < length s → refused 4 2 ≡ read_among t ks n s
+  beyond h = neither (λ z. omega arith) (λ z. omega arith)
+
+  -- what is so for a body of either size
+  pub of_two : size_of t k ≤ length s → length s ≤ size_of t l → {r : Read t.Value} → (length s ≡ size_of t k → r ≡ read_body t k s) → (length s ≡ size_of t l → r ≡ read_body t l s) → r ≡ read_among t ks n s
+  unfolding read_among
+  of_two low high old new =
+      by_test (eqb (length s) (size_of t k))
+      (λ h. rw (key, kn, two, h) (old (eqb-true _ _ h)))
+      (λ h.
+      let other : length s ≡ size_of t k → ⊥ = eqb-false _ _ h in
+      let whole : length s ≡ size_of t l = omega arith in rw (key, kn, two, h, eq-eqb _ _ whole) (new whole))
 
 module _ (t : Table) (n : ℕ) (s : List ℕ) where
   -- all kinds, where the number is not retired

@@ -13,7 +13,7 @@ use Rattle.records.specs.declared.messages.Message.{Message}
 use Rattle.std.proofs.Common.{Result, Ok, Err}
 use Rattle.records.specs.declared.bodies.Unreadable.{Unreadable}
 use Rattle.records.specs.Letters.{Letter, width, a₁, d, q, i, g, o, r, o₁₆, s}
-use Rattle.records.specs.Bodies.{Values, size, value_at, slots_at, field, size_or_place, line_bytes}
+use Rattle.records.specs.Bodies.{Found, is, bad_at, Values, size, value_at, slots_at, field, size_or_place, line_bytes}
 use Rattle.records.specs.Tables.{Table, Read, as_read, taken, find, known, size_of, read_body, read_among}
 use Rattle.records.specs.Events.{event_bytes}
 use Rattle.records.specs.Messages.{message_bytes}
@@ -23,6 +23,20 @@ use Rattle.records.proofs.Rows.{bad, good}
 use Rattle.records.proofs.Writing.{Body, message_line, event_line}
 
 -- ---- read where they may stand
+
+module _ (bytes : List ℕ) (at : ℕ) where
+  pub none_carried : {v : ℕ} → is v ≡ slots_at bytes at → length bytes ≡ at → v ≡ 0
+  unfolding slots_at
+  none_carried {v} e w = let z : ◌≡◌ {A = Found ℕ} (is v) (is 0) = rw (eq-eqb _ _ w) at e in cc
+
+  pub none_bad : {p : ℕ} → bad_at p ≡ slots_at bytes at → length bytes ≡ at → ⊥
+  unfolding slots_at
+  none_bad {p} e w = let z : ◌≡◌ {A = Found ℕ} (bad_at p) (is 0) = rw (eq-eqb _ _ w) at e in let y : ◌≡◌ {A = ℕ} 0 1 = cc in omega arith
+
+  -- where the body goes on
+  pub carried_at : {x : Found ℕ} → x ≡ slots_at bytes at → length bytes ≡ at + 1 → x ≡ value_at s bytes at
+  unfolding slots_at
+  carried_at {x} e w = let other : length bytes ≡ at → ⊥ = λ z. omega arith in rw (ne_eqb _ _ other) at e
 
 -- the values of letters, and slots behind them
 abbrev pub joined : (ls : List Letter) → Values ls → ℕ → Values (ls ++ (s ∷ []))

@@ -20,7 +20,9 @@ use callcontrol::settle::next_by;
 use callcontrol::step::{Refusal, Stepped};
 use std::marker::Model;
 
-// The letters of messages by number, since an entry of the table is a sum of them; 0 is none. TOLD is what the row tells: c, g, x, or the slots of a SETUP request.
+// The letters of messages by number, since an entry of the table is a sum of them; 0 is none. A letter's number is also where its value stands
+// among the values, so these are not the letters of events, whose numbers are places in a table of ranges. TOLD is what the row tells: c, g, x,
+// or the slots of a SETUP request.
 const NO_LETTER: u32 = 0;
 
 const I: u32 = 1;
@@ -183,7 +185,8 @@ fn width_of(l: u32) -> usize
     }
 }
 
-// The timer of a place, by its number.
+// The number of a place's timer, counted from the first STOP or START; 0 at CANCEL and the U-PDU, CONFIGURE and the user primitive, which have
+// none. A match: a table of nine numbers, two of them 0, would be no plainer.
 #[tactic(auto, unfolding(crate::specs::Places::timer_at))]
 fn timer_at(k: usize) -> u32
     ensures { result ≡ timer_at k }
@@ -207,7 +210,8 @@ fn code_at(k: usize, code: u32) -> u32
     if k == START_OF_T310 { code } else { 0 }
 }
 
-// A room of our own, for what eighteen places take, whatever stands there; and how far it is filled.
+// A room of our own, for what eighteen places take, whatever stands there; and how far it is filled. No invariant: what a method promises
+// is where bytes are stored, and what it asks is room for those; both are of the position, and differ from method to method.
 #[derive(Drop)]
 struct Room {
     bytes: [u8; 360],
@@ -440,8 +444,8 @@ fn number_of(digit: u64, most: u64, before: u64) -> Option<Number>
     })
 }
 
-// The plane that CONFIGURE tells, 0 for none: the present one for 5, the kept one for 6. It is callcontrol's own once more, which is closed: what
-// that crate opens is a promise of the library (docs/PROMISES.md).
+// The plane that CONFIGURE tells, 0 for none: the present one for 5, the kept one for 6. callcontrol's takes a row's whole orders and promises
+// the plane of those; this one takes the digit alone, and its promise is of a digit.
 #[tactic(auto, unfolding(callcontrol::specs::Settle::configure_by))]
 fn configure_by(digit: u64, call: Call) -> u8
     requires { digit < 16 }
@@ -468,6 +472,7 @@ pub fn carry_row(call: Call, row: Row, buffer: &mut [u8]) -> Result<Stepped, Ref
 {
     let n = row.orders;
     let configure = configure_by(n / PLANE_1 % 16, call);
+    // An array and no struct: a letter of the table says by its number where its value is.
     let mut values: [u32; 10] = [
         code_of(n, row.code) as u32,
         row.id as u32,

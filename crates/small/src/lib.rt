@@ -27,9 +27,7 @@ fn decide(call: Call, e: Flat, buffer: &mut [u8]) -> Result<Stepped, Refusal>
     if e.names_other(call) {
         return Err(Refusal::OtherCall);
     }
-    let Some(row) = table_row(call, e) else {
-        return Err(Refusal::NoRow);
-    };
+    let row = table_row(call, e).ok_or(Refusal::NoRow)?;
     if e.is_over(call) {
         return Err(Refusal::OwnTransmission);
     }

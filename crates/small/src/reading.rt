@@ -15,6 +15,7 @@ use records::bodies::{Unreadable, kind_in};
 use records::fields::{long_at, word_at};
 
 // The paper's letters by number, since an entry of the table is a sum of them; 0 is none. One with an exception to its range is a letter of its own.
+// The numbers are places in LETTERS, which has the ranges: messages have other letters, and number them by where their values stand.
 const A1: u32 = 1;
 
 const A: u32 = 2;
@@ -264,7 +265,7 @@ fn fill(letters: u32, v: &mut [u32; 9], s: &[u8]) -> Result<(), Unreadable>
     Ok(())
 }
 
-// A timer by its number.
+// A timer by its number. A match: a search among the seven numbers would find a place, of which a timer would still be made.
 #[tactic(auto, unfolding(crate::specs::Reading::timer_place))]
 fn timer_of(n: u32) -> Option<Timer>
     ensures { option_map_or place result 7 ≡ timer_place n }
@@ -366,9 +367,8 @@ fn read_body(entry: u32, kind: u64, call: Call, s: &[u8]) -> Result<Flat, Unread
     requires { sized_well entry ≡ true }
     ensures { as_read result ≡ body_by entry kind call s.now }
 {
-    let Some(letters) = letters_for(entry, s.len()) else {
-        return Err(Unreadable::BadBody(2));
-    };
+    let letters = letters_for(entry, s.len()).ok_or(Unreadable::BadBody(2))?;
+    // An array and no struct: a letter of the table says by number where its value goes.
     let mut v: [u32; 9] = [
         call.id as u32,
         call.address,
@@ -381,9 +381,7 @@ fn read_body(entry: u32, kind: u64, call: Call, s: &[u8]) -> Result<Flat, Unread
         0,
     ];
     fill(letters, &mut v, s)?;
-    let Some(timer) = timer_of(v[TIMER]) else {
-        return Err(Unreadable::BadBody(4));
-    };
+    let timer = timer_of(v[TIMER]).ok_or(Unreadable::BadBody(4))?;
     Ok(flat_by(kind_with(kind, timer), timer, &v))
 }
 
@@ -402,9 +400,7 @@ fn read_kind(n: u16, call: Call, s: &[u8]) -> Result<Flat, Unreadable>
         return Err(Unreadable::Retired);
     }
     let place = hint(n / 256 % 8) + (n % 256) as usize;
-    let Some(entry) = entry_at(&EVENTS, place) else {
-        return Err(Unreadable::UnknownKind);
-    };
+    let entry = entry_at(&EVENTS, place).ok_or(Unreadable::UnknownKind)?;
     if entry / KIND % 2048 != n as u32 {
         return Err(Unreadable::UnknownKind);
     }
@@ -414,8 +410,6 @@ fn read_kind(n: u16, call: Call, s: &[u8]) -> Result<Flat, Unreadable>
 pub fn read_flat(call: Call, s: &[u8]) -> Result<Flat, Unreadable>
     ensures { as_read result ≡ flatted call (read events s.now) }
 {
-    let Some(kind) = kind_in(s) else {
-        return Err(Unreadable::BadLength);
-    };
+    let kind = kind_in(s).ok_or(Unreadable::BadLength)?;
     read_kind(kind, call, s)
 }

@@ -94,7 +94,7 @@ fn facts(call: Call, e: Flat) -> [bool; 8]
         runs_or_no_expiry(e.kind, t[k]),
         call.sent == 0,
         t301_suits(e.kind, t[T301]),
-        (e.ask == 1) & ((call.asked == 0) & ((call.plane == 2) | (call.plane == 4))),
+        (e.ask == 1) & ((call.asked == 0) & matches!(call.plane, 2 | 4)),
         (e.ask != 1) & (call.plane == 1),
         (e.ask != 1) & (call.asked == 1),
         call.asked != e.ask,

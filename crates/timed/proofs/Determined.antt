@@ -1,4 +1,5 @@
--- The promises leave no choice: two results that one allows are equal, and so are the buffers that they leave.
+-- The promises leave no choice: two results that one allows are equal, and so are the buffers that they leave. `Learnt` is a function's own `ensures` as a caller
+-- learns it, of the arguments, the result, and the parameters when it returns.
 use Prim.Native.Nat.{ℕ}
 use mathlib.Core.Path.{◌≡◌, refl, sym, ◌∙◌, ap}
 use mathlib.Core.Bool.{Bool, true, false, cond}
@@ -12,7 +13,9 @@ use Rattle.timed.specs.declared.set.Timed.{Timed}
 use Rattle.timed.specs.declared.set.Refusal.{Refusal}
 use Rattle.timed.specs.declared.set.Stepped.{Stepped}
 use Rattle.timed.specs.Set.{new_of}
-use Rattle.timed.specs.Entries.{Outcome, refusal_number, refusal_place, place_of, as_outcome, NotUnsound, step_of, due_of}
+use Rattle.timed.specs.Entries.{Outcome, refusal_number, refusal_place, place_of, as_outcome, NotUnsound}
+use Rattle.timed.proofs.set.Timed.step.Reads as step-promise
+use Rattle.timed.proofs.set.Timed.due.Reads as due-promise
 
 pub new : (reading : ℕ) (r₁ r₂ : Timed) → r₁ ≡ new_of reading → r₂ ≡ new_of reading → r₁ ≡ r₂
 new reading r₁ r₂ e₁ e₂ = e₁ ∙ sym e₂
@@ -82,18 +85,8 @@ same o t r₁ r₂ b₁ b₂ p q h k =
     let e : as_outcome t r₁ b₁ ≡ as_outcome t r₂ b₂ = p ∙ sym q in
     (results t r₁ r₂ b₁ b₂ h k e, sym (left t r₁ b₁) ∙ ap (λ (x : Outcome). x.buffer) e ∙ left t r₂ b₂)
 
-pub step : (t : Timed) (lengths : List ℕ) (reading : ℕ) (event buffer : List ℕ) (r₁ r₂ : Result Stepped Refusal) (b₁ b₂ : List ℕ)
-    → as_outcome t r₁ b₁ ≡ step_of t lengths reading event buffer
-    → as_outcome t r₂ b₂ ≡ step_of t lengths reading event buffer
-    → NotUnsound r₁
-    → NotUnsound r₂
-    → (r₁ ≡ r₂) × (b₁ ≡ b₂)
-step t lengths reading event buffer r₁ r₂ b₁ b₂ e₁ e₂ h k = same (step_of t lengths reading event buffer) t r₁ r₂ b₁ b₂ e₁ e₂ h k
+pub step : (κs : _) (a : _) (r₁ r₂ : _) (e₁ e₂ : _) → step-promise.Learnt κs a r₁ e₁ → step-promise.Learnt κs a r₂ e₂ → (r₁ ≡ r₂) × (e₁.1.1.1.1.0.now ≡ e₂.1.1.1.1.0.now)
+step κs a r₁ r₂ e₁ e₂ p q = same _ a.0 r₁ r₂ _ _ p.0 q.0 p.1 q.1
 
-pub due : (t : Timed) (lengths : List ℕ) (reading : ℕ) (buffer : List ℕ) (r₁ r₂ : Result Stepped Refusal) (b₁ b₂ : List ℕ)
-    → as_outcome t r₁ b₁ ≡ due_of t lengths reading buffer
-    → as_outcome t r₂ b₂ ≡ due_of t lengths reading buffer
-    → NotUnsound r₁
-    → NotUnsound r₂
-    → (r₁ ≡ r₂) × (b₁ ≡ b₂)
-due t lengths reading buffer r₁ r₂ b₁ b₂ e₁ e₂ h k = same (due_of t lengths reading buffer) t r₁ r₂ b₁ b₂ e₁ e₂ h k
+pub due : (κs : _) (a : _) (r₁ r₂ : _) (e₁ e₂ : _) → due-promise.Learnt κs a r₁ e₁ → due-promise.Learnt κs a r₂ e₂ → (r₁ ≡ r₂) × (e₁.1.1.1.0.now ≡ e₂.1.1.1.0.now)
+due κs a r₁ r₂ e₁ e₂ p q = same _ a.0 r₁ r₂ _ _ p.0 q.0 p.1 q.1

@@ -31,7 +31,7 @@ pub enum Refusal {
     TimerDue,
     // 35: expiries are made by due alone.
     ExpiryHandedIn,
-    // The step's own. It never finds the record unsound, which is NoSet.
+    // The step's own. It never finds the record unsound, which is NoSet; a clause says so and no type, since the step's enum is handed on whole.
     OfStep(step::Refusal),
 }
 

@@ -53,7 +53,7 @@ fn of_pair(bound: u64, high: u64, low: u64) -> u64
     under(bound, low)
 }
 
-// The number of the timer that a key is of.
+// The number of the timer that a key is of, and 0 where it is of none: `number_of` of specs/Due, by which `hand_out` is promised, is a number for every key.
 #[tactic(auto, unfolding(crate::specs::Due::number_of))]
 fn number_of(key: u64) -> u16
     ensures { result ≡ number_of key }
@@ -95,7 +95,7 @@ impl Pairs {
         }
     }
 
-    // The greatest key below a bound, 0 where there is none.
+    // The greatest key below a bound, 0 where there is none. Written out, pair by pair, as `below` of specs/Due is.
     #[tactic(auto, unfolding(crate::specs::Due::below))]
     fn below(self, bound: u64) -> u64
         ensures { result ≡ below bound self.keys }
