@@ -7,7 +7,8 @@ use native.Mathlib.Omega.{arith}
 use borrow.Author.Tests.{le-leb, lt-leb}
 use native.Mathlib.Numerals.{add-one}
 use lib.ListN.{length, get_or, drop}
-use lib.Seq.{drop-cons}
+use lib.Dec.{leb}
+use lib.Seq.{drop-cons, sets, length-sets}
 use denote.Enum.Bare.{sameb}
 use Rattle.channel.specs.contracts.rooms.Wait.{the_type}
 use Rattle.records.specs.declared.messages.Message.{Message}
@@ -41,6 +42,24 @@ one_laid e = record { is = e }
 
 pub one_size : (m : Message) (n : ℕ) → n ≡ message_size m → n ≡ length (bytes_of (m ∷ []))
 one_size m n e = e ∙ sym (size_one m)
+
+-- what is laid leaves the buffer as long as it was
+
+laid_same : (out b : List ℕ) (at : ℕ) → length (laid out b at) ≡ length b
+unfolding laid
+laid_same out b at = by (leb (at + length out) (length b))
+  where
+    by : (fits : Bool) → length (cond fits (sets b at out) b) ≡ length b
+    by true = length-sets b at out
+    by false = refl
+
+lay_same : (ms : List Message) (at : ℕ) (b : List ℕ) → length (lay_all ms at b).1 ≡ length b
+unfolding lay_all
+lay_same [] at b = refl
+lay_same (m ∷ ms) at b = lay_same ms (laid_next (message_bytes m) b at) (laid (message_bytes m) b at) ∙ laid_same (message_bytes m) b at
+
+pub same_room : {b after : List ℕ} {at end : ℕ} {ms : List Message} → Laid b at ms end after → length after ≡ length b
+same_room {b} {after} {at} {end} {ms} l = ap (λ (w : ℕ × List ℕ). length w.1) l.is ∙ lay_same ms at b
 
 -- a walk over the rooms, at one of a call and at another
 pub laid_on : (c : ℕ) (rooms : List Room) (k at next : ℕ) (b after : List ℕ) → k < length rooms

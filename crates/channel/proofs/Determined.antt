@@ -20,7 +20,9 @@ use Rattle.channel.proofs.rooms.Rooms.number_waits.Reads as number-waits-promise
 use Rattle.channel.proofs.rooms.Rooms.are_sound.Reads as rooms-sound-promise
 use Rattle.channel.proofs.rooms.Rooms.first_free.Reads as first-free-promise
 use Rattle.channel.proofs.rooms.Rooms.first_waiting.Reads as first-waiting-promise
+use Rattle.channel.proofs.rooms.Rooms.of_call.Reads as of-call-count-promise
 use Rattle.channel.proofs.rooms.Room.freed.Reads as room-freed-promise
+use Rattle.channel.proofs.rooms.Rooms.freed.Reads as rooms-freed-promise
 use Rattle.channel.proofs.questions.ask.Reads as ask-promise
 use Rattle.channel.proofs.questions.ask_pdu.Reads as ask-pdu-promise
 use Rattle.channel.proofs.questions.decide.Reads as decide-promise
@@ -96,6 +98,12 @@ first_waiting κs a r₁ r₂ e₁ e₂ p q = p ∙ sym q
 
 pub room_freed : (κs : _) (a : _) (r₁ r₂ : _) (e₁ e₂ : _) → room-freed-promise.Learnt κs a r₁ e₁ → room-freed-promise.Learnt κs a r₂ e₂ → r₁ ≡ r₂
 room_freed κs a r₁ r₂ e₁ e₂ p q = p ∙ sym q
+
+pub rooms_of_call : (κs : _) (a : _) (r₁ r₂ : _) (e₁ e₂ : _) → of-call-count-promise.Learnt κs a r₁ e₁ → of-call-count-promise.Learnt κs a r₂ e₂ → r₁ ≡ r₂
+rooms_of_call κs a r₁ r₂ e₁ e₂ p q = p.0 ∙ sym q.0
+
+pub rooms_freed : (κs : _) (a : _) (r₁ r₂ : _) (e₁ e₂ : _) → rooms-freed-promise.Learnt κs a r₁ e₁ → rooms-freed-promise.Learnt κs a r₂ e₂ → r₁ ≡ r₂
+rooms_freed κs a r₁ r₂ e₁ e₂ p q = let e : r₁.rooms ≡ r₂.rooms = p ∙ sym q in λ i. record { rooms = e i }
 
 pub ask : (κs : _) (a : _) (r₁ r₂ : _) (e₁ e₂ : _) → ask-promise.Learnt κs a r₁ e₁ → ask-promise.Learnt κs a r₂ e₂ → (r₁ ≡ r₂) × (e₁.1.1.1.1.0.now ≡ e₂.1.1.1.1.0.now)
 ask κs a r₁ r₂ e₁ e₂ p q = determined _ _ r₁ r₂ _ _ p q

@@ -36,6 +36,8 @@ use Rattle.console.proofs.console.place_step.Reads as place-step-promise
 use Rattle.console.proofs.console.turn.Reads as turn-promise
 use Rattle.console.proofs.route.ConsoleRefusal.number.Reads as console-number-promise
 use Rattle.console.proofs.route.ConsoleRefusal.place.Reads as console-place-promise
+use Rattle.console.proofs.route.ConsoleRefusalFromRefusal.from.Reads as of-step-promise
+use Rattle.console.proofs.route.ConsoleRefusalFromUnreadable.from.Reads as of-reader-promise
 use Rattle.console.proofs.route.aim_of.Reads as aim-of-promise
 use Rattle.console.proofs.route.route_of.Reads as route-of-promise
 use Rattle.console.proofs.route.lead.Reads as lead-promise
@@ -208,6 +210,12 @@ console_number_lem κs a r₁ r₂ e₁ e₂ p q = p.0 ∙ sym q.0
 
 pub console_place_lem : (κs : _) (a : _) (r₁ r₂ : _) (e₁ e₂ : _) → console-place-promise.Learnt κs a r₁ e₁ → console-place-promise.Learnt κs a r₂ e₂ → r₁ ≡ r₂
 console_place_lem κs a r₁ r₂ e₁ e₂ p q = p ∙ sym q
+
+pub from_refusal : (κs : _) (a : _) (r₁ r₂ : _) (e₁ e₂ : _) → of-step-promise.Learnt κs a r₁ e₁ → of-step-promise.Learnt κs a r₂ e₂ → r₁ ≡ r₂
+from_refusal κs a r₁ r₂ e₁ e₂ p q = p ∙ sym q
+
+pub from_unreadable : (κs : _) (a : _) (r₁ r₂ : _) (e₁ e₂ : _) → of-reader-promise.Learnt κs a r₁ e₁ → of-reader-promise.Learnt κs a r₂ e₂ → r₁ ≡ r₂
+from_unreadable κs a r₁ r₂ e₁ e₂ p q = p ∙ sym q
 
 pub aim_of : (κs : _) (a : _) (r₁ r₂ : _) (e₁ e₂ : _) → aim-of-promise.Learnt κs a r₁ e₁ → aim-of-promise.Learnt κs a r₂ e₂ → r₁ ≡ r₂
 aim_of κs a r₁ r₂ e₁ e₂ p q = p ∙ sym q

@@ -378,6 +378,9 @@ own_fits calls e {own = own} {own₀ = own₀} laid room =
 pub front_size : (n : ℕ) (own : List ℕ) → n ≤ length own → n ≡ length (take n own)
 front_size n own fits = sym (length-take-le n own fits)
 
+pub front_within : (n : ℕ) (own b : List ℕ) → n ≤ length own → n ≤ length b → length (take n own) ≤ length b
+front_within n own b fits room = let s = front_size n own fits in omega arith
+
 module _ (calls : List Call) (e : Event) (b : List ℕ) {r : SoFar} {after : List Call} {own own₀ : List ℕ} (laid : LaidAll r after own calls e own₀) where
   none_of : r.upto ≡ 0 → some? (takes e) calls ≡ false
   none_of none = sym laid.taken ∙ ap not (eq-eqb r.upto 0 none)

@@ -35,6 +35,10 @@ module _ (calls : List Call) (ok : table_sound calls ≡ true) where
   unfolding table_sound
   sound_all = left (every? sound calls) (apart calls) (right (eqb (length calls) 8) (every? sound calls && apart calls) ok)
 
+  pub apart_all : apart calls ≡ true
+  unfolding table_sound
+  apart_all = right (every? sound calls) (apart calls) (right (eqb (length calls) 8) (every? sound calls && apart calls) ok)
+
 module _ (calls : List Call) (k : ℕ) where
   pub sound_at : table_sound calls ≡ true → k < 8 → sound (call_at calls k) ≡ true
   sound_at ok below = let n = eight_of calls ok in every_at sound calls k (omega arith) (sound_all calls ok)

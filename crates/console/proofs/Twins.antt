@@ -69,6 +69,15 @@ twin c d true is s t none =
     (λ some. none (outside c (is_idle c) refl s some) (outside d (is_idle d) refl t (rw same at some)) same)
     (λ both. none (is_not (is_idle c) (left (not (is_idle c)) (not (is_idle d)) both)) (is_not (is_idle d) (right (not (is_idle c)) (not (is_idle d)) both)) same))
 
+no_twin : (c d : Call) → alike c d ≡ false → NoTwin c d
+unfolding alike
+no_twin c d unlike p q same =
+    false_true (rw (eq-eqb c.id d.id same, p, q) (or-true (leb 1 c.id))) unlike
+  where
+    or-true : (a : Bool) → (a || true) ≡ true
+    or-true true = refl
+    or-true false = refl
+
 -- ---- the pairs of a list
 
 none_of : (p : Call → Bool) (cs : List Call) → ((k : ℕ) → k < length cs → p (call_at cs k) ≡ false) → some? p cs ≡ false

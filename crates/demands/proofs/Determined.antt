@@ -3,12 +3,20 @@
 use Prim.Native.Nat.{ℕ}
 use mathlib.Core.Path.{◌≡◌, sym, ◌∙◌, ap}
 use mathlib.Core.List.{List}
+use denote.Enum.Declared.{row}
 use Rattle.std.specs.Prelude.{Result}
 use Rattle.records.specs.declared.bodies.Unwritable.{Unwritable}
+use Rattle.records.specs.contracts.events.Event.{the_type as event_type}
+use Rattle.records.specs.contracts.messages.Message.{the_type as message_type}
 use Rattle.records.proofs.Determined as records
 use Rattle.callcontrol.proofs.Determined as callcontrol
 use Rattle.records.proofs.record.read.Reads as read-promise
 use Rattle.records.proofs.record.write.Reads as write-promise
+use Rattle.records.proofs.events.EventRecord.of_kind.Reads as event-of-kind-promise
+use Rattle.records.proofs.events.EventRecord.fits.Reads as event-fits-promise
+use Rattle.records.proofs.events.EventRecord.lay.Reads as lay-event-promise
+use Rattle.records.proofs.messages.MessageRecord.of_kind.Reads as message-of-kind-promise
+use Rattle.records.proofs.messages.MessageRecord.fits.Reads as message-fits-promise
 use Rattle.records.proofs.messages.MessageRecord.lay.Reads as lay-message-promise
 use Rattle.records.proofs.messages.message_size.Reads as message-size-promise
 use Rattle.records.proofs.bodies.kind_in.Reads as kind-in-promise
@@ -59,6 +67,37 @@ read_lem t g₁ g₂ g₃ g₄ g₅ g₆ κs a r₁ r₂ e₁ e₂ p q = records
 
 pub write_lem : (t g₁ g₂ g₃ g₄ g₅ g₆ : _) (κs : _) (a : _) (r₁ r₂ : _) (e₁ e₂ : _) → write-promise.Learnt t g₁ g₂ g₃ g₄ g₅ g₆ κs a r₁ e₁ → write-promise.Learnt t g₁ g₂ g₃ g₄ g₅ g₆ κs a r₂ e₂ → (r₁ ≡ r₂) × (e₁.1.0.now ≡ e₂.1.0.now)
 write_lem t g₁ g₂ g₃ g₄ g₅ g₆ κs a r₁ r₂ e₁ e₂ p q = both (records.write_lem _ (r₁, e₁.1.0.now) (r₂, e₂.1.0.now) p q)
+
+-- at an event and at a message
+
+pub read_event : (g₁ g₂ g₃ g₄ g₅ g₆ : _) (κs : _) (a : _) (r₁ r₂ : _) (e₁ e₂ : _) → read-promise.Learnt (row event_type) g₁ g₂ g₃ g₄ g₅ g₆ κs a r₁ e₁ → read-promise.Learnt (row event_type) g₁ g₂ g₃ g₄ g₅ g₆ κs a r₂ e₂ → r₁ ≡ r₂
+read_event = read_lem (row event_type)
+
+pub read_message : (g₁ g₂ g₃ g₄ g₅ g₆ : _) (κs : _) (a : _) (r₁ r₂ : _) (e₁ e₂ : _) → read-promise.Learnt (row message_type) g₁ g₂ g₃ g₄ g₅ g₆ κs a r₁ e₁ → read-promise.Learnt (row message_type) g₁ g₂ g₃ g₄ g₅ g₆ κs a r₂ e₂ → r₁ ≡ r₂
+read_message = read_lem (row message_type)
+
+pub write_event : (g₁ g₂ g₃ g₄ g₅ g₆ : _) (κs : _) (a : _) (r₁ r₂ : _) (e₁ e₂ : _) → write-promise.Learnt (row event_type) g₁ g₂ g₃ g₄ g₅ g₆ κs a r₁ e₁ → write-promise.Learnt (row event_type) g₁ g₂ g₃ g₄ g₅ g₆ κs a r₂ e₂ → (r₁ ≡ r₂) × (e₁.1.0.now ≡ e₂.1.0.now)
+write_event = write_lem (row event_type)
+
+pub write_message : (g₁ g₂ g₃ g₄ g₅ g₆ : _) (κs : _) (a : _) (r₁ r₂ : _) (e₁ e₂ : _) → write-promise.Learnt (row message_type) g₁ g₂ g₃ g₄ g₅ g₆ κs a r₁ e₁ → write-promise.Learnt (row message_type) g₁ g₂ g₃ g₄ g₅ g₆ κs a r₂ e₂ → (r₁ ≡ r₂) × (e₁.1.0.now ≡ e₂.1.0.now)
+write_message = write_lem (row message_type)
+
+-- the methods of a record, at an event and at a message
+
+pub event_of_kind : (κs : _) (a : _) (r₁ r₂ : _) (e₁ e₂ : _) → event-of-kind-promise.Learnt κs a r₁ e₁ → event-of-kind-promise.Learnt κs a r₂ e₂ → r₁ ≡ r₂
+event_of_kind κs a r₁ r₂ e₁ e₂ p q = records.read_lem _ r₁ r₂ p q
+
+pub message_of_kind : (κs : _) (a : _) (r₁ r₂ : _) (e₁ e₂ : _) → message-of-kind-promise.Learnt κs a r₁ e₁ → message-of-kind-promise.Learnt κs a r₂ e₂ → r₁ ≡ r₂
+message_of_kind κs a r₁ r₂ e₁ e₂ p q = records.read_lem _ r₁ r₂ p q
+
+pub event_fits : (κs : _) (a : _) (r₁ r₂ : _) (e₁ e₂ : _) → event-fits-promise.Learnt κs a r₁ e₁ → event-fits-promise.Learnt κs a r₂ e₂ → r₁ ≡ r₂
+event_fits κs a r₁ r₂ e₁ e₂ p q = p ∙ sym q
+
+pub message_fits : (κs : _) (a : _) (r₁ r₂ : _) (e₁ e₂ : _) → message-fits-promise.Learnt κs a r₁ e₁ → message-fits-promise.Learnt κs a r₂ e₂ → r₁ ≡ r₂
+message_fits κs a r₁ r₂ e₁ e₂ p q = p ∙ sym q
+
+pub lay_event : (κs : _) (a : _) (r₁ r₂ : _) (e₁ e₂ : _) → lay-event-promise.Learnt κs a r₁ e₁ → lay-event-promise.Learnt κs a r₂ e₂ → ◌≡◌ {A = ℕ × List ℕ} (r₁, e₁.1.0.now) (r₂, e₂.1.0.now)
+lay_event κs a r₁ r₂ e₁ e₂ p q = p ∙ sym q
 
 pub lay_message : (κs : _) (a : _) (r₁ r₂ : _) (e₁ e₂ : _) → lay-message-promise.Learnt κs a r₁ e₁ → lay-message-promise.Learnt κs a r₂ e₂ → ◌≡◌ {A = ℕ × List ℕ} (r₁, e₁.1.0.now) (r₂, e₂.1.0.now)
 lay_message κs a r₁ r₂ e₁ e₂ p q = p ∙ sym q

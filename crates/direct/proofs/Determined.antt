@@ -3,25 +3,31 @@
 use Rattle.std.proofs.Common.{ℕ, zero, suc, ◌≤◌, ◌≡◌, refl, sym, ◌∙◌, ap, arith, List, Result, Ok, Err}
 use mathlib.Core.Bool.{cond}
 use lib.Dec.{eqb}
+use denote.Enum.Declared.{row}
 use Rattle.records.specs.declared.bodies.Unreadable.{Unreadable}
 use Rattle.records.specs.declared.bodies.Unwritable.{Unwritable}
-use Rattle.records.specs.Bodies.{Wrote, as_wrote}
-use Rattle.records.specs.Tables.{as_read, read, write}
 use Rattle.records.proofs.Determined.{read_lem, write_lem}
-use Rattle.direct.specs.declared.events.Event.{Event}
-use Rattle.direct.specs.declared.messages.Message.{Message}
+use Rattle.direct.specs.contracts.events.Event.{the_type as event_type}
+use Rattle.direct.specs.contracts.messages.Message.{the_type as message_type}
 use Rattle.direct.specs.declared.step.Refusal.{Refusal}
 use Rattle.direct.specs.declared.step.Stepped.{Stepped}
 use Rattle.direct.specs.declared.call.Call.{Call}
 use Rattle.direct.specs.declared.call.State.{State}
 use Rattle.direct.specs.declared.call.UnknownState.{UnknownState}
 use Rattle.direct.specs.Call.{state_number as number_of, StateOf}
-use Rattle.direct.specs.Events.{events}
-use Rattle.direct.specs.Messages.{messages}
 use Rattle.direct.specs.Step.{Outcome, as_outcome}
+use Rattle.records.proofs.record.read.Reads as read-promise
+use Rattle.records.proofs.record.write.Reads as write-promise
+use Rattle.direct.proofs.events.EventRecord.of_kind.Reads as event-of-kind-promise
+use Rattle.direct.proofs.events.EventRecord.fits.Reads as event-fits-promise
+use Rattle.direct.proofs.events.EventRecord.lay.Reads as lay-event-promise
+use Rattle.direct.proofs.messages.MessageRecord.of_kind.Reads as message-of-kind-promise
+use Rattle.direct.proofs.messages.MessageRecord.fits.Reads as message-fits-promise
+use Rattle.direct.proofs.messages.MessageRecord.lay.Reads as lay-message-promise
 use Rattle.direct.proofs.call.Call.fresh.Reads as fresh-promise
 use Rattle.direct.proofs.call.Call.sound.Reads as sound-promise
 use Rattle.direct.proofs.call.U8FromState.from.Reads as state-number-promise
+use Rattle.direct.proofs.call.StateTryFromU8.try_from.Reads as state-of-promise
 use Rattle.direct.proofs.step.RefusalFromUnreadable.from.Reads as unread-promise
 use Rattle.direct.proofs.step.Refusal.number.Reads as number-promise
 use Rattle.direct.proofs.step.Refusal.place.Reads as place-promise
@@ -62,23 +68,42 @@ same_step c o r₁ r₂ b₁ b₂ e₁ e₂ =
 
 -- ---- the functions
 
--- reading and writing, by the promises of records' `read` and `write` at an event and at a message
+-- reading and writing: records' `read` and `write` at an event and at a message
 
--- what a writer answers, and its buffer
-abbrev wrote_into : Result ℕ Unwritable × List ℕ → Wrote × List ℕ
-wrote_into w = (as_wrote w.0, w.1)
+both : {w₁ w₂ : Result ℕ Unwritable × List ℕ} → w₁ ≡ w₂ → (w₁.0 ≡ w₂.0) × (w₁.1 ≡ w₂.1)
+both e = (ap (λ (w : Result ℕ Unwritable × List ℕ). w.0) e, ap (λ (w : Result ℕ Unwritable × List ℕ). w.1) e)
 
-pub read_event : (s : List ℕ) (r₁ r₂ : Result Event Unreadable) → as_read r₁ ≡ read events s → as_read r₂ ≡ read events s → r₁ ≡ r₂
-read_event s = read_lem (read events s)
+pub read_event : (g₁ g₂ g₃ g₄ g₅ g₆ : _) (κs : _) (a : _) (r₁ r₂ : _) (e₁ e₂ : _) → read-promise.Learnt (row event_type) g₁ g₂ g₃ g₄ g₅ g₆ κs a r₁ e₁ → read-promise.Learnt (row event_type) g₁ g₂ g₃ g₄ g₅ g₆ κs a r₂ e₂ → r₁ ≡ r₂
+read_event g₁ g₂ g₃ g₄ g₅ g₆ κs a r₁ r₂ e₁ e₂ p q = read_lem _ r₁ r₂ p q
 
-pub read_message : (s : List ℕ) (r₁ r₂ : Result Message Unreadable) → as_read r₁ ≡ read messages s → as_read r₂ ≡ read messages s → r₁ ≡ r₂
-read_message s = read_lem (read messages s)
+pub read_message : (g₁ g₂ g₃ g₄ g₅ g₆ : _) (κs : _) (a : _) (r₁ r₂ : _) (e₁ e₂ : _) → read-promise.Learnt (row message_type) g₁ g₂ g₃ g₄ g₅ g₆ κs a r₁ e₁ → read-promise.Learnt (row message_type) g₁ g₂ g₃ g₄ g₅ g₆ κs a r₂ e₂ → r₁ ≡ r₂
+read_message g₁ g₂ g₃ g₄ g₅ g₆ κs a r₁ r₂ e₁ e₂ p q = read_lem _ r₁ r₂ p q
 
-pub write_event : (e : Event) (buffer : List ℕ) (w₁ w₂ : Result ℕ Unwritable × List ℕ) → wrote_into w₁ ≡ write events e buffer → wrote_into w₂ ≡ write events e buffer → w₁ ≡ w₂
-write_event e buffer = write_lem (write events e buffer)
+pub write_event : (g₁ g₂ g₃ g₄ g₅ g₆ : _) (κs : _) (a : _) (r₁ r₂ : _) (e₁ e₂ : _) → write-promise.Learnt (row event_type) g₁ g₂ g₃ g₄ g₅ g₆ κs a r₁ e₁ → write-promise.Learnt (row event_type) g₁ g₂ g₃ g₄ g₅ g₆ κs a r₂ e₂ → (r₁ ≡ r₂) × (e₁.1.0.now ≡ e₂.1.0.now)
+write_event g₁ g₂ g₃ g₄ g₅ g₆ κs a r₁ r₂ e₁ e₂ p q = both (write_lem _ (r₁, e₁.1.0.now) (r₂, e₂.1.0.now) p q)
 
-pub write_message : (m : Message) (buffer : List ℕ) (w₁ w₂ : Result ℕ Unwritable × List ℕ) → wrote_into w₁ ≡ write messages m buffer → wrote_into w₂ ≡ write messages m buffer → w₁ ≡ w₂
-write_message m buffer = write_lem (write messages m buffer)
+pub write_message : (g₁ g₂ g₃ g₄ g₅ g₆ : _) (κs : _) (a : _) (r₁ r₂ : _) (e₁ e₂ : _) → write-promise.Learnt (row message_type) g₁ g₂ g₃ g₄ g₅ g₆ κs a r₁ e₁ → write-promise.Learnt (row message_type) g₁ g₂ g₃ g₄ g₅ g₆ κs a r₂ e₂ → (r₁ ≡ r₂) × (e₁.1.0.now ≡ e₂.1.0.now)
+write_message g₁ g₂ g₃ g₄ g₅ g₆ κs a r₁ r₂ e₁ e₂ p q = both (write_lem _ (r₁, e₁.1.0.now) (r₂, e₂.1.0.now) p q)
+
+-- the methods of a record, at both
+
+pub event_of_kind : (κs : _) (a : _) (r₁ r₂ : _) (e₁ e₂ : _) → event-of-kind-promise.Learnt κs a r₁ e₁ → event-of-kind-promise.Learnt κs a r₂ e₂ → r₁ ≡ r₂
+event_of_kind κs a r₁ r₂ e₁ e₂ p q = read_lem _ r₁ r₂ p q
+
+pub message_of_kind : (κs : _) (a : _) (r₁ r₂ : _) (e₁ e₂ : _) → message-of-kind-promise.Learnt κs a r₁ e₁ → message-of-kind-promise.Learnt κs a r₂ e₂ → r₁ ≡ r₂
+message_of_kind κs a r₁ r₂ e₁ e₂ p q = read_lem _ r₁ r₂ p q
+
+pub event_fits : (κs : _) (a : _) (r₁ r₂ : _) (e₁ e₂ : _) → event-fits-promise.Learnt κs a r₁ e₁ → event-fits-promise.Learnt κs a r₂ e₂ → r₁ ≡ r₂
+event_fits κs a r₁ r₂ e₁ e₂ p q = p ∙ sym q
+
+pub message_fits : (κs : _) (a : _) (r₁ r₂ : _) (e₁ e₂ : _) → message-fits-promise.Learnt κs a r₁ e₁ → message-fits-promise.Learnt κs a r₂ e₂ → r₁ ≡ r₂
+message_fits κs a r₁ r₂ e₁ e₂ p q = p ∙ sym q
+
+pub lay_event : (κs : _) (a : _) (r₁ r₂ : _) (e₁ e₂ : _) → lay-event-promise.Learnt κs a r₁ e₁ → lay-event-promise.Learnt κs a r₂ e₂ → ◌≡◌ {A = ℕ × List ℕ} (r₁, e₁.1.0.now) (r₂, e₂.1.0.now)
+lay_event κs a r₁ r₂ e₁ e₂ p q = p ∙ sym q
+
+pub lay_message : (κs : _) (a : _) (r₁ r₂ : _) (e₁ e₂ : _) → lay-message-promise.Learnt κs a r₁ e₁ → lay-message-promise.Learnt κs a r₂ e₂ → ◌≡◌ {A = ℕ × List ℕ} (r₁, e₁.1.0.now) (r₂, e₂.1.0.now)
+lay_message κs a r₁ r₂ e₁ e₂ p q = p ∙ sym q
 
 pub fresh : (κs : _) (a : _) (r₁ r₂ : _) (e₁ e₂ : _) → fresh-promise.Learnt κs a r₁ e₁ → fresh-promise.Learnt κs a r₂ e₂ → r₁ ≡ r₂
 fresh κs a r₁ r₂ e₁ e₂ p q = p ∙ sym q
@@ -115,11 +140,14 @@ number_small State.Idle = omega arith
 number_small State.PresenceCheck = omega arith
 number_small State.Active = omega arith
 
-pub state_of : (n : ℕ) (r₁ r₂ : Result State UnknownState) → StateOf n r₁ → StateOf n r₂ → r₁ ≡ r₂
-state_of n (Ok s) (Ok t) p q = ap (λ (x : State). Ok x) (sym (state_same s) ∙ ap state_back (p ∙ sym q) ∙ state_same t)
-state_of n (Ok s) (Err u) p q = absurd (omega (arith, p, q.1, number_small s))
-state_of n (Err u) (Ok t) p q = absurd (omega (arith, p.1, q, number_small t))
-state_of n (Err u) (Err v) p q = ap (λ (x : ℕ). Err (record { 0 = x })) (p.0 ∙ sym q.0)
+state_of_number : (n : ℕ) (r₁ r₂ : Result State UnknownState) → StateOf n r₁ → StateOf n r₂ → r₁ ≡ r₂
+state_of_number n (Ok s) (Ok t) p q = ap (λ (x : State). Ok x) (sym (state_same s) ∙ ap state_back (p ∙ sym q) ∙ state_same t)
+state_of_number n (Ok s) (Err u) p q = absurd (omega (arith, p, q.1, number_small s))
+state_of_number n (Err u) (Ok t) p q = absurd (omega (arith, p.1, q, number_small t))
+state_of_number n (Err u) (Err v) p q = ap (λ (x : ℕ). Err (record { 0 = x })) (p.0 ∙ sym q.0)
 
 pub step : (κs : _) (a : _) (r₁ r₂ : _) (e₁ e₂ : _) → step-promise.Learnt κs a r₁ e₁ → step-promise.Learnt κs a r₂ e₂ → (r₁ ≡ r₂) × (e₁.1.1.0.now ≡ e₂.1.1.0.now)
 step κs a r₁ r₂ e₁ e₂ p q = same_step a.0 _ r₁ r₂ _ _ p q
+
+pub state_of : (κs : _) (a : _) (r₁ r₂ : _) (e₁ e₂ : _) → state-of-promise.Learnt κs a r₁ e₁ → state-of-promise.Learnt κs a r₂ e₂ → r₁ ≡ r₂
+state_of κs a r₁ r₂ e₁ e₂ p q = state_of_number _ r₁ r₂ p q

@@ -19,6 +19,11 @@ use Rattle.records.proofs.Reading.{Good, Bad, Refused, Passes, passed}
 -- ---- the body of a kind
 
 module _ (t : Table) (k : t.Kind) (s : List ℕ) where
+  -- it has another size
+  pub other_size : (length s ≡ 4 + size (t.row_of k).letters → ⊥) → refused 4 2 ≡ read_body t k s
+  unfolding read_body body_of
+  other_size other = rw (ne_eqb _ _ other)
+
   module _ (whole : length s ≡ 4 + size (t.row_of k).letters) where
     -- it has a wrong field
     pub bad : {p : ℕ} → Bad (t.row_of k).letters s 4 p → refused 4 p ≡ read_body t k s

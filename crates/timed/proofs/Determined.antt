@@ -14,11 +14,27 @@ use Rattle.timed.specs.declared.set.Refusal.{Refusal}
 use Rattle.timed.specs.declared.set.Stepped.{Stepped}
 use Rattle.timed.specs.Set.{new_of}
 use Rattle.timed.specs.Entries.{Outcome, refusal_number, refusal_place, place_of, as_outcome, NotUnsound}
+use Rattle.timed.proofs.set.Refusal.number.Reads as number-promise
+use Rattle.timed.proofs.set.Refusal.place.Reads as place-promise
+use Rattle.timed.proofs.set.RefusalFromStepRefusal.from.Reads as of-step-promise
+use Rattle.timed.proofs.set.RefusalFromUnreadable.from.Reads as of-reader-promise
 use Rattle.timed.proofs.set.Timed.step.Reads as step-promise
 use Rattle.timed.proofs.set.Timed.due.Reads as due-promise
 
 pub new : (reading : ℕ) (r₁ r₂ : Timed) → r₁ ≡ new_of reading → r₂ ≡ new_of reading → r₁ ≡ r₂
 new reading r₁ r₂ e₁ e₂ = e₁ ∙ sym e₂
+
+pub number : (κs : _) (a : _) (r₁ r₂ : _) (e₁ e₂ : _) → number-promise.Learnt κs a r₁ e₁ → number-promise.Learnt κs a r₂ e₂ → r₁ ≡ r₂
+number κs a r₁ r₂ e₁ e₂ p q = p.0 ∙ sym q.0
+
+pub place : (κs : _) (a : _) (r₁ r₂ : _) (e₁ e₂ : _) → place-promise.Learnt κs a r₁ e₁ → place-promise.Learnt κs a r₂ e₂ → r₁ ≡ r₂
+place κs a r₁ r₂ e₁ e₂ p q = p ∙ sym q
+
+pub from_step : (κs : _) (a : _) (r₁ r₂ : _) (e₁ e₂ : _) → of-step-promise.Learnt κs a r₁ e₁ → of-step-promise.Learnt κs a r₂ e₂ → r₁ ≡ r₂
+from_step κs a r₁ r₂ e₁ e₂ p q = p ∙ sym q
+
+pub from_unreadable : (κs : _) (a : _) (r₁ r₂ : _) (e₁ e₂ : _) → of-reader-promise.Learnt κs a r₁ e₁ → of-reader-promise.Learnt κs a r₂ e₂ → r₁ ≡ r₂
+from_unreadable κs a r₁ r₂ e₁ e₂ p q = p ∙ sym q
 
 -- a refusal by its number and its place
 abbrev own_of : ℕ → ℕ → StepRefusal

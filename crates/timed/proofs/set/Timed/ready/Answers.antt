@@ -1,6 +1,5 @@
 -- 1, then 31, then 32, and then what the bank says of the reading.
-use Rattle.std.proofs.Common.{refl, sym}
-use Rattle.std.proofs.Math.Seq.{length-take-le}
+use Rattle.std.proofs.Common.{refl}
 use Rattle.timed.specs.Parts.{ready_at}
 use Rattle.timed.proofs.Readings.{earlier, not_earlier, ready_is}
 use Rattle.timed.proofs.set.Timed.ready.Goals as goal
@@ -10,14 +9,11 @@ unfolding ready_at
 returns-in_default c =
     rw (← c.is_set.ensures, c.if-not-is_set.false, ← c.table_right.ensures, c.if-not-table_right.false, earlier _ _ _ refl _ _ c.in_default.ensures)
 
-pub slice_bounds-due-end : goal.slice_bounds-due-end
-slice_bounds-due-end c = (ready_is c.args.self c.args.reading _ refl c.in-Ok.advanced _ c.in-Ok.ensures).2
-
-pub slice_bounds-first-end : goal.slice_bounds-first-end
-slice_bounds-first-end c = sym (length-take-le _ _ (ready_is c.args.self c.args.reading _ refl c.in-Ok.advanced _ c.in-Ok.ensures).2)
+pub first_of-requires : goal.first_of-requires
+first_of-requires c = (ready_is c.args.self c.args.reading _ refl c.in-Ok.advanced _ c.in-Ok.ensures).2
 
 pub returns : goal.returns
 unfolding ready_at
 returns c =
     let is = ready_is c.args.self c.args.reading _ refl c.in-Ok.advanced _ c.in-Ok.ensures in
-    rw (← c.is_set.ensures, c.if-not-is_set.false, ← c.table_right.ensures, c.if-not-table_right.false, not_earlier _ _ _ refl c.in-Ok.advanced _ c.in-Ok.ensures, c.copied.ensures, c.first.ensures.value, is.0, is.1)
+    rw (← c.is_set.ensures, c.if-not-is_set.false, ← c.table_right.ensures, c.if-not-table_right.false, not_earlier _ _ _ refl c.in-Ok.advanced _ c.in-Ok.ensures, c.first_of.ensures, is.0, is.1)
