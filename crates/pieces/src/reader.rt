@@ -62,11 +62,14 @@ pub fn where_number(handed: Option<Where>) -> u8
 }
 
 // The first n bytes of the piece into the carry, behind those carried.
+// Byte by byte: `copy_from_slice` of a length that varies calls `memmove`, and an archive for C is to need no name from outside.
 fn copy(carry: &mut [u8], at: usize, piece: &[u8], n: usize)
     requires { (at + n ≤ length carry.old) × (n ≤ length piece.now) }
     ensures { carry.new ≡ paste carry.old at piece.now n }
 {
-    carry[at..at + n].copy_from_slice(&piece[..n]);
+    for i in 0..n {
+        carry[at + i] = piece[i];
+    }
 }
 
 impl Reader {
