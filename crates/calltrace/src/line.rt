@@ -105,7 +105,7 @@ impl LineBlock {
     {
         self.put_digit(line.answer);
         self.put(b" ");
-        self.put(name(line.state));
+        self.put_name(line.state);
         self.put_column(line.plane);
         self.put_column(line.count);
         self.put_column(line.place);
@@ -156,28 +156,34 @@ impl LineBlock {
         self.put_digit(n % 10);
     }
 
-    // A space, and a number behind it.
+    // A space, and a number behind it: one copy where the number has one digit, as most have.
+    #[tactic(auto, unfolding(crate::specs::Line::decimal, crate::specs::Line::code))]
     fn put_column(&mut self, n: u8)
         requires { length self.old + 4 ≤ LINE_ROOM }
         ensures value { self.new ≡ self.old ++ 32 ∷ decimal n }
         ensures upper_bound { length self.new ≤ length self.old + 4 }
     {
-        self.put(b" ");
-        self.put_number(n);
+        if n < 10 {
+            self.put(&[b' ', b'0' + n]);
+        } else {
+            self.put(b" ");
+            self.put_number(n);
+        }
     }
-}
 
-// Not `Display`, which would go through `write!` (see `put_number`).
-fn name(state: State) -> &'static [u8]
-    ensures value { result.now ≡ name_of state }
-    ensures upper_bound { length result.now ≤ 15 }
-{
-    match state {
-        State::Idle => b"IDLE",
-        State::MoCallSetup => b"MO-CALL-SETUP",
-        State::MtCallSetup => b"MT-CALL-SETUP",
-        State::CallActive => b"CALL-ACTIVE",
-        State::Wait => b"WAIT",
-        State::CallDisconnect => b"CALL-DISCONNECT",
+    // Not `Display`, which would go through `write!` (see `put_number`). A copy in each arm, whose length is then known: one for all calls `memcpy`.
+    fn put_name(&mut self, state: State)
+        requires { length self.old + 15 ≤ LINE_ROOM }
+        ensures value { self.new ≡ self.old ++ name_of state }
+        ensures upper_bound { length self.new ≤ length self.old + 15 }
+    {
+        match state {
+            State::Idle => self.put(b"IDLE"),
+            State::MoCallSetup => self.put(b"MO-CALL-SETUP"),
+            State::MtCallSetup => self.put(b"MT-CALL-SETUP"),
+            State::CallActive => self.put(b"CALL-ACTIVE"),
+            State::Wait => self.put(b"WAIT"),
+            State::CallDisconnect => self.put(b"CALL-DISCONNECT"),
+        }
     }
 }
