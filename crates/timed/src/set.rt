@@ -1,6 +1,6 @@
 // A set: record and bank together. A step and due are refused first with 1 (no set), 31 (the table of lengths) and 32 (the reading). A refusal
 // changes nothing, and the reading is then not accepted.
-ghost use Rattle.std.specs.Prelude.{◌≡◌, ◌<◌, true};
+ghost use Rattle.std.specs.Prelude.{◌≡◌, ◌<◌, ◌≤◌, true, length, take, slice_get};
 ghost use Rattle.callcontrol.specs.declared.step.Refusal.TheVariants.{Unreadable as UnreadableEvent};
 ghost use Rattle.callcontrol.specs.Call.{sound};
 ghost use Rattle.timed.specs.declared.set.Refusal.TheVariants.{OfStep};
@@ -106,6 +106,14 @@ fn is_expiry(event: Event) -> bool
     matches!(event, Event::Expiry { .. })
 }
 
+// The first of the timers in a list of which so many are due.
+fn first_of(due: &[u16; 7], count: usize) -> Option<u16>
+    requires { count ≤ length due.now }
+    ensures { result ≡ slice_get (take count due.now) 0 }
+{
+    if count == 0 { None } else { Some(due[0]) }
+}
+
 impl Timed {
     // The fresh record, and no timer runs.
     pub fn new(reading: u32) -> Self
@@ -154,7 +162,7 @@ impl Timed {
             return Err(Refusal::ReadingEarlier);
         };
         Ok(Ready {
-            first: due[..advanced.count].first().copied(),
+            first: first_of(&due, advanced.count),
             timed: Timed {
                 call: self.call,
                 bank: advanced.bank,
