@@ -18,3 +18,6 @@ unfolding ahead_in
 returns-clause-value c =
     let size : number 2 c.args.s.now 0 ≡ c.from_le_bytes-size.result = omega (arith, two_bytes c.args.s.now, c.from_le_bytes-size.ensures) in
     rw (le-ltb _ _ c.in-len2-up.len_at_least, size, le-ltb _ _ c.if-size-lt4.false, le-ltb _ _ c.if-s-size.false)
+
+pub returns-clause-ahead_fits : goal.returns-clause-ahead_fits
+returns-clause-ahead_fits c = (c.if-size-lt4.false, c.if-s-size.false)
